@@ -1,0 +1,84 @@
+// The indices that one receiver accepted of one sender.
+ghost use Rattle.std.specs.Prelude.{◌≡◌, ℕ, ◌^◌, ◌<◌, List, [], ◌∷◌, IfSome, IfNone};
+ghost use Rattle.perc_window.specs.Index.{nearest, IsNearest};
+ghost use Rattle.perc_window.specs.Replay.{freshness, freshness_at, greatest, StandsFor};
+
+use std::marker::Model;
+
+/// How many indices behind the highest accepted one the window looks back.
+const PLACES: usize = 128;
+
+/// The end of the indices: the roll-over counter has 32 bits and the sequence number 16.
+const INDEX_END: u64 = 1 << 48;
+
+/// What a window says to an index.
+#[derive(Clone, Copy, Debug, PartialEq, Eq)]
+pub enum Freshness {
+    /// It was not accepted, and is less than 128 behind the highest.
+    Fresh,
+    /// It was accepted before.
+    Repeated,
+    /// It is 128 or more behind the highest.
+    TooOld,
+}
+
+/// A replay window. It keeps the highest accepted index, and which of the 128 indices that end with it were
+/// accepted (RFC 3711 section 3.3.2).
+#[derive(Drop)]
+pub struct Window {
+    highest: Option<u64>,
+    /// Place k is for the index k behind the highest.
+    behind: [bool; PLACES],
+}
+
+impl Model for Window {
+    ghost use Rattle.std.specs.Prelude.{◌^◌, ◌<◌, IfSome};
+    ghost use Rattle.perc_window.specs.Replay.{Marks};
+
+    ghost Value = { Marks };
+
+    ghost view = { λ w. record { highest = w.highest; behind = w.behind } };
+
+    ghost invariant = { λ w. IfSome w.highest (λ h. h < 2 ^ 48) };
+}
+
+impl Window {
+    /// A window of a receiver that accepted nothing.
+    pub fn new() -> Window
+        ensures { StandsFor result [] }
+    {
+        Window {
+            highest: None,
+            behind: [false; PLACES],
+        }
+    }
+
+    /// The index of a packet with this sequence number: the one nearest to the highest accepted index, and the
+    /// number itself where nothing was accepted. None where that would be below 0 or from 2^48 on
+    /// (RFC 3711 section 3.3.1).
+    pub fn nearest(&self, seq: u16) -> Option<u64>
+        ensures value { (accepted : List ℕ) → StandsFor self.now accepted → result ≡ nearest (greatest accepted) seq }
+        // Of all indices it is the one in the half range around the highest.
+        ensures found { IfSome result (IsNearest self.now.highest seq) }
+        ensures none { IfNone result ((index : ℕ) → IsNearest self.now.highest seq index → ⊥) }
+    {
+        None
+    }
+
+    /// Whether an index is fresh: not accepted before, and less than 128 behind the highest.
+    pub fn fresh(&self, index: u64) -> Freshness
+        ensures value { result ≡ freshness_at self.now index }
+        ensures accepted { (accepted : List ℕ) → StandsFor self.now accepted → result ≡ freshness accepted index }
+    {
+        Freshness::Fresh
+    }
+
+    /// Accepts an index.
+    pub fn mark(&mut self, index: u64)
+        requires fresh { freshness_at self.old index ≡ Freshness.Fresh }
+        requires in_range { index < 2 ^ 48 }
+        ensures { (accepted : List ℕ) → StandsFor self.old accepted → StandsFor self.new (index ∷ accepted) }
+    {
+        self.highest = Some(index);
+    }
+}
