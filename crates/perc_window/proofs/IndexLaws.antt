@@ -1,0 +1,95 @@
+-- Laws of the nearest index, and of what a receiver says to an index.
+use Rattle.std.proofs.Common.{◌≡◌, ℕ, ◌+◌, ◌%◌, ◌^◌, ◌<◌, ◌≤◌, max, Bool, true, false, eqb, ◌||◌, List, [], ◌∷◌, Option, Some, None, refl, arith}
+use Rattle.std.proofs.lemmas.Bool.Decides.{nat_tests}
+use Rattle.std.proofs.lemmas.Option.{same_Some}
+use Rattle.std.specs.Option.{option_map_or}
+use Rattle.perc_window.specs.Index.{is_near, IsNearest, nearest}
+use Rattle.perc_window.specs.Replay.{has, greatest, is_too_old, freshness}
+use Rattle.perc_window.specs.declared.window.Freshness.TheVariants.{Fresh, Repeated, TooOld}
+
+-- An index in the half range, with this sequence number, is the nearest one. So there is one such index at most.
+pub nearest_is : (h seq index : ℕ) → index % 65536 ≡ seq → is_near h index ≡ true → index < 2 ^ 48 → nearest (Some h) seq ≡ Some index
+unfolding nearest
+nearest_is h seq index congruent near in_range = grind (arith, nat_tests)
+
+-- The nearest index has this sequence number, is in the half range, and is below the end of the indices.
+pub nearest_some : (highest : Option ℕ) (seq index : ℕ) → seq < 65536 → nearest highest seq ≡ Some index → IsNearest highest seq index
+unfolding nearest
+nearest_some None seq index fits is = record { congruent = grind arith; near = grind arith; in_range = grind arith }
+nearest_some (Some h) seq index fits is = record { congruent = grind (arith, nat_tests); near = grind (arith, nat_tests); in_range = grind (arith, nat_tests) }
+
+-- Where nothing was accepted, it is the sequence number itself.
+pub nearest_first : (seq : ℕ) → nearest None seq ≡ Some seq
+unfolding nearest
+nearest_first seq = refl
+
+-- Where there is no nearest index, no index is one.
+pub nearest_none : (highest : Option ℕ) (seq index : ℕ) → nearest highest seq ≡ None → IsNearest highest seq index → ⊥
+nearest_none None seq index is near = grind (arith, nearest_first seq)
+nearest_none (Some h) seq index is near = grind (arith, nearest_is h seq index near.congruent near.near near.in_range)
+
+-- Nothing but the empty set has no greatest index.
+pub greatest_none : (accepted : List ℕ) → greatest accepted ≡ None → accepted ≡ []
+greatest_none [] is = refl
+greatest_none (index ∷ accepted) is = grind arith
+
+-- Where there is no greatest index, none was accepted.
+pub has_none : (accepted : List ℕ) (index : ℕ) → greatest accepted ≡ None → has accepted index ≡ false
+has_none [] index is = refl
+has_none (i ∷ accepted) index is = grind arith
+
+-- one more index, over any greatest one of the others
+bounds_more : (others : Option ℕ) (member : Bool) (i h index : ℕ) → (others ≡ None → member ≡ false) → ((g : ℕ) → others ≡ Some g → member ≡ true → index ≤ g) → option_map_or (max i) others i ≡ h → (eqb i index || member) ≡ true → index ≤ h
+bounds_more None member i h index none some is found = let e = none refl in grind (arith, nat_tests)
+bounds_more (Some g) true i h index none some is found = omega (arith, some g refl refl)
+bounds_more (Some g) false i h index none some is found = grind (arith, nat_tests)
+
+-- No accepted index is above the greatest.
+pub greatest_bounds : (accepted : List ℕ) (h index : ℕ) → greatest accepted ≡ Some h → has accepted index ≡ true → index ≤ h
+greatest_bounds [] h index is member = grind arith
+greatest_bounds (i ∷ accepted) h index is member =
+    bounds_more (greatest accepted) (has accepted index) i h index (has_none accepted index)
+    (λ g e. greatest_bounds accepted g index e) (same_Some _ _ is) member
+
+-- An index above the greatest is not accepted.
+pub has_above : (accepted : List ℕ) (h index : ℕ) → greatest accepted ≡ Some h → h < index → has accepted index ≡ false
+has_above accepted h index is above = grind (arith, greatest_bounds accepted h index is)
+
+-- A fresh index was not accepted,
+pub fresh_has : (accepted : List ℕ) (index : ℕ) → freshness accepted index ≡ Fresh → has accepted index ≡ false
+fresh_has accepted index is = grind arith
+
+-- and is less than 128 behind the greatest.
+pub fresh_recent : (accepted : List ℕ) (index : ℕ) → freshness accepted index ≡ Fresh → is_too_old accepted index ≡ false
+fresh_recent accepted index is = grind arith
+
+-- An index that was not accepted is fresh where it is not too old.
+pub freshness_fresh : (accepted : List ℕ) (index : ℕ) → is_too_old accepted index ≡ false → has accepted index ≡ false → freshness accepted index ≡ Fresh
+freshness_fresh accepted index recent member = grind arith
+
+-- An index that was accepted is repeated where it is not too old.
+pub freshness_repeated : (accepted : List ℕ) (index : ℕ) → is_too_old accepted index ≡ false → has accepted index ≡ true → freshness accepted index ≡ Repeated
+freshness_repeated accepted index recent member = grind arith
+
+pub freshness_too_old : (accepted : List ℕ) (index : ℕ) → is_too_old accepted index ≡ true → freshness accepted index ≡ TooOld
+freshness_too_old accepted index old = grind arith
+
+-- So an index is never accepted twice.
+pub accepted_not_fresh : (accepted : List ℕ) (index : ℕ) → has accepted index ≡ true → freshness accepted index ≡ Fresh → ⊥
+accepted_not_fresh accepted index member is = grind arith
+
+-- An index above the greatest is fresh.
+pub freshness_above : (accepted : List ℕ) (h index : ℕ) → greatest accepted ≡ Some h → h < index → freshness accepted index ≡ Fresh
+freshness_above accepted h index is above = grind (arith, nat_tests, has_above accepted h index is above)
+
+-- Where nothing was accepted, each index is fresh.
+pub freshness_first : (index : ℕ) → freshness [] index ≡ Fresh
+freshness_first index = refl
+
+-- The index just accepted is a member.
+pub has_first : (accepted : List ℕ) (index : ℕ) → has (index ∷ accepted) index ≡ true
+has_first accepted index = grind (arith, nat_tests)
+
+-- The others are members as before.
+pub has_other : (accepted : List ℕ) (i index : ℕ) → (i ≡ index → ⊥) → has (i ∷ accepted) index ≡ has accepted index
+has_other accepted i index other = grind (arith, nat_tests)
