@@ -1,7 +1,8 @@
 -- Laws of the nearest index, and of what a receiver says to an index.
-use Rattle.std.proofs.Common.{◌≡◌, ℕ, ◌+◌, ◌%◌, ◌^◌, ◌<◌, ◌≤◌, max, Bool, true, false, eqb, ◌||◌, List, [], ◌∷◌, Option, Some, None, refl, arith}
+use Rattle.std.proofs.Common.{◌≡◌, ℕ, nat_lt, ◌+◌, ◌%◌, ◌^◌, ◌<◌, ◌≤◌, max, Bool, true, false, eqb, ◌||◌, List, [], ◌∷◌, Option, Some, None, IfSome, IfNone, refl, sym, arith}
 use Rattle.std.proofs.lemmas.Bool.Decides.{nat_tests}
 use Rattle.std.proofs.lemmas.Option.{same_Some}
+use Rattle.std.specs.Bool.{then_some}
 use Rattle.std.specs.Option.{option_map_or}
 use Rattle.perc_window.specs.Index.{is_near, IsNearest, nearest}
 use Rattle.perc_window.specs.Replay.{has, greatest, is_too_old, freshness}
@@ -12,11 +13,26 @@ pub nearest_is : (h seq index : ℕ) → index % 65536 ≡ seq → is_near h ind
 unfolding nearest
 nearest_is h seq index congruent near in_range = grind (arith, nat_tests)
 
+-- the same without a bound: the index is the nearest one unless it is from the end of the indices on
+pub nearest_in_turn : (h seq index : ℕ) → index % 65536 ≡ seq → is_near h index ≡ true → nearest (Some h) seq ≡ then_some (nat_lt index (2 ^ 48)) index
+unfolding nearest
+nearest_in_turn h seq index congruent near = grind (arith, nat_tests)
+
+-- There is no turn before the first.
+pub nearest_below : (h seq : ℕ) → h < 65536 → h + 32768 < seq → nearest (Some h) seq ≡ None
+unfolding nearest
+nearest_below h seq first above = grind (arith, nat_tests)
+
 -- The nearest index has this sequence number, is in the half range, and is below the end of the indices.
 pub nearest_some : (highest : Option ℕ) (seq index : ℕ) → seq < 65536 → nearest highest seq ≡ Some index → IsNearest highest seq index
 unfolding nearest
 nearest_some None seq index fits is = record { congruent = grind arith; near = grind arith; in_range = grind arith }
 nearest_some (Some h) seq index fits is = record { congruent = grind (arith, nat_tests); near = grind (arith, nat_tests); in_range = grind (arith, nat_tests) }
+
+-- the same of a result that equals it
+pub nearest_found : (highest : Option ℕ) (seq : ℕ) (result : Option ℕ) → seq < 65536 → result ≡ nearest highest seq → IfSome result (IsNearest highest seq)
+nearest_found highest seq None fits is = tt
+nearest_found highest seq (Some index) fits is = nearest_some highest seq index fits (sym is)
 
 -- Where nothing was accepted, it is the sequence number itself.
 pub nearest_first : (seq : ℕ) → nearest None seq ≡ Some seq
@@ -27,6 +43,11 @@ nearest_first seq = refl
 pub nearest_none : (highest : Option ℕ) (seq index : ℕ) → nearest highest seq ≡ None → IsNearest highest seq index → ⊥
 nearest_none None seq index is near = grind (arith, nearest_first seq)
 nearest_none (Some h) seq index is near = grind (arith, nearest_is h seq index near.congruent near.near near.in_range)
+
+-- the same of a result that equals it
+pub nearest_missed : (highest : Option ℕ) (seq : ℕ) (result : Option ℕ) → result ≡ nearest highest seq → IfNone result ((index : ℕ) → IsNearest highest seq index → ⊥)
+nearest_missed highest seq None is = λ index near. nearest_none highest seq index (sym is) near
+nearest_missed highest seq (Some index) is = tt
 
 -- Nothing but the empty set has no greatest index.
 pub greatest_none : (accepted : List ℕ) → greatest accepted ≡ None → accepted ≡ []

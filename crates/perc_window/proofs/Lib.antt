@@ -1,1 +1,2 @@
 pub mod IndexLaws
+mod Marks
