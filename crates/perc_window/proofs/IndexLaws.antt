@@ -1,11 +1,12 @@
 -- Laws of the nearest index, and of what a receiver says to an index.
-use Rattle.std.proofs.Common.{◌≡◌, ℕ, nat_lt, ◌+◌, ◌%◌, ◌^◌, ◌<◌, ◌≤◌, max, Bool, true, false, eqb, ◌||◌, List, [], ◌∷◌, Option, Some, None, IfSome, IfNone, refl, sym, arith}
+use Rattle.std.proofs.Common.{◌≡◌, ℕ, nat_lt, ◌+◌, ◌%◌, ◌^◌, ◌<◌, ◌≤◌, max, Bool, true, false, eqb, ◌||◌, List, [], ◌∷◌, Option, Some, None, IfSome, IfNone, ◌-◌, ⊎_elim, slice_index_or, refl, sym, arith}
+use Rattle.std.proofs.lemmas.Bool.{cases_lt}
 use Rattle.std.proofs.lemmas.Bool.Decides.{nat_tests}
 use Rattle.std.proofs.lemmas.Option.{same_Some}
 use Rattle.std.specs.Bool.{then_some}
 use Rattle.std.specs.Option.{option_map_or}
 use Rattle.perc_window.specs.Index.{is_near, IsNearest, nearest}
-use Rattle.perc_window.specs.Replay.{has, greatest, is_too_old, freshness}
+use Rattle.perc_window.specs.Replay.{Marks, StandsFor, has, greatest, is_too_old, freshness, freshness_at}
 use Rattle.perc_window.specs.declared.window.Freshness.TheVariants.{Fresh, Repeated, TooOld}
 
 -- An index in the half range, with this sequence number, is the nearest one. So there is one such index at most.
@@ -114,3 +115,22 @@ has_first accepted index = grind (arith, nat_tests)
 -- The others are members as before.
 pub has_other : (accepted : List ℕ) (i index : ℕ) → (i ≡ index → ⊥) → has (i ∷ accepted) index ≡ has accepted index
 has_other accepted i index other = grind (arith, nat_tests)
+
+-- the same for each highest index
+freshness_same_at : (highest : Option ℕ) (behind : List Bool) (accepted : List ℕ) (index : ℕ) → StandsFor (record { highest = highest; behind = behind }) accepted → freshness_at (record { highest = highest; behind = behind }) index ≡ freshness accepted index
+freshness_same_at None behind accepted index stands = grind (arith, nat_tests, has_none accepted index, stands.highest)
+freshness_same_at (Some h) behind accepted index stands =
+    let top = sym stands.highest in
+    ⊎_elim (λ (above : h < index). grind (arith, nat_tests, has_above accepted h index top above))
+    (λ (below : index ≤ h).
+        ⊎_elim (λ (recent : h - index < 128).
+            let e : h - (h - index) ≡ index = omega arith in
+            let m = rw e at (stands.marks (h - index) recent (omega arith)) in
+            grind (arith, nat_tests))
+        (λ (old : 128 ≤ h - index). grind (arith, nat_tests))
+        (cases_lt (h - index) 128))
+    (cases_lt h index)
+
+-- A window that stands for a set says what the set says.
+pub freshness_same : (window : Marks) (accepted : List ℕ) (index : ℕ) → StandsFor window accepted → freshness_at window index ≡ freshness accepted index
+freshness_same window accepted index stands = freshness_same_at window.highest window.behind accepted index stands

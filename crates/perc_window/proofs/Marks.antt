@@ -4,23 +4,8 @@ use Rattle.std.proofs.lemmas.Bool.{cases_lt, cases_eq}
 use Rattle.std.proofs.lemmas.List.{get_or_append_left, get_or-append_right, get_or-replicate, get_or-drop, length-take, length-replicate}
 use Rattle.std.proofs.lemmas.Bool.Decides.{nat_tests}
 use Rattle.std.proofs.lemmas.Grind.{common_steps, get_or-set_at}
-use Rattle.perc_window.specs.Replay.{Marks, StandsFor, has, greatest, freshness, freshness_at}
-use Rattle.perc_window.proofs.IndexLaws.{greatest_none, has_none, has_above, has_first, has_other}
-
--- A window says what its set says.
-pub freshness_same : (highest : Option ℕ) (behind : List Bool) (accepted : List ℕ) (index : ℕ) → StandsFor (record { highest = highest; behind = behind }) accepted → freshness_at (record { highest = highest; behind = behind }) index ≡ freshness accepted index
-freshness_same None behind accepted index stands = grind (arith, nat_tests, has_none accepted index, stands.highest)
-freshness_same (Some h) behind accepted index stands =
-    let top = sym stands.highest in
-    ⊎_elim (λ (above : h < index). grind (arith, nat_tests, has_above accepted h index top above))
-    (λ (below : index ≤ h).
-        ⊎_elim (λ (recent : h - index < 128).
-            let e : h - (h - index) ≡ index = omega arith in
-            let m = rw e at (stands.marks (h - index) recent (omega arith)) in
-            grind (arith, nat_tests))
-        (λ (old : 128 ≤ h - index). grind (arith, nat_tests))
-        (cases_lt (h - index) 128))
-    (cases_lt h index)
+use Rattle.perc_window.specs.Replay.{StandsFor}
+use Rattle.perc_window.proofs.IndexLaws.{has_none, has_above}
 
 -- an index above the highest
 pub marked_ahead : (h index : ℕ) (behind moved : List Bool) (accepted : List ℕ) → StandsFor (record { highest = Some h; behind = behind }) accepted → h < index → length behind ≡ 128 → length moved ≡ 128 → ((k : ℕ) → k < 128 → slice_index_or moved k false ≡ (if nat_lt k (index - h) then false else slice_index_or behind (k - (index - h)) false)) → StandsFor (record { highest = Some index; behind = slice_set moved 0 true }) (index ∷ accepted)
