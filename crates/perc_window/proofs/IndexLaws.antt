@@ -123,12 +123,12 @@ freshness_same_at (Some h) behind accepted index stands =
     let top = sym stands.highest in
     ⊎_elim (λ (above : h < index). grind (arith, nat_tests, has_above accepted h index top above))
     (λ (below : index ≤ h).
-        ⊎_elim (λ (recent : h - index < 128).
-            let e : h - (h - index) ≡ index = omega arith in
-            let m = rw e at (stands.marks (h - index) recent (omega arith)) in
-            grind (arith, nat_tests))
-        (λ (old : 128 ≤ h - index). grind (arith, nat_tests))
-        (cases_lt (h - index) 128))
+    ⊎_elim (λ (recent : h - index < 128).
+    let e : h - (h - index) ≡ index = omega arith in
+    let m = rw e at (stands.marks (h - index) recent (omega arith)) in
+    grind (arith, nat_tests))
+    (λ (old : 128 ≤ h - index). grind (arith, nat_tests))
+    (cases_lt (h - index) 128))
     (cases_lt h index)
 
 -- A window that stands for a set says what the set says.

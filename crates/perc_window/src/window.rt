@@ -145,3 +145,95 @@ fn move_up(behind: &mut [bool], by: usize)
     behind.copy_within(..kept, by);
     behind[..by].fill(false);
 }
+
+#[cfg(test)]
+mod tests {
+    use super::*;
+
+    // Accepts each index that is fresh, in turn.
+    fn window_of(indices: &[u64]) -> Window {
+        let mut window = Window::new();
+        for index in indices {
+            if *index < INDEX_END && window.fresh(*index) == Freshness::Fresh {
+                window.mark(*index);
+            }
+        }
+        window
+    }
+
+    #[test]
+    fn nearest_index(rt: HostRuntime) {
+        let last = INDEX_END - 1;
+        assert_eq!(rt; Window::new().nearest(65535), Some(65535));
+        for (highest, seq, want) in [
+            (100, 32868, Some(32868)),
+            (100, 32869, None),
+            (32767, 65535, Some(65535)),
+            (32768, 0, Some(0)),
+            (32769, 0, Some(65536)),
+            (65546, 65000, Some(65000)),
+            (65546, 32778, Some(98314)),
+            (65546, 32779, Some(32779)),
+            (98304, 32767, Some(98303)),
+            (10, 65000, None),
+            (last, 0, None),
+            (last, 32766, None),
+            (last, 32767, Some(281474976677887)),
+            (last, 65535, Some(last)),
+        ] {
+            let window = window_of(&[highest]);
+            assert_eq!(rt; window.nearest(seq), want, "{seq} after {highest}");
+        }
+    }
+
+    #[test]
+    fn freshness_by_distance(rt: HostRuntime) {
+        assert_eq!(rt; Window::new().fresh(0), Freshness::Fresh);
+        let window = window_of(&[1000, 873]);
+        for (index, want) in [
+            (1001, Freshness::Fresh),
+            (1000, Freshness::Repeated),
+            (999, Freshness::Fresh),
+            (874, Freshness::Fresh),
+            (873, Freshness::Repeated),
+            (872, Freshness::TooOld),
+            (0, Freshness::TooOld),
+            (u64::MAX, Freshness::Fresh),
+        ] {
+            assert_eq!(rt; window.fresh(index), want, "at {index}");
+        }
+    }
+
+    #[test]
+    fn freshness_after_a_jump(rt: HostRuntime) {
+        for (jump, index, want) in [
+            (1, 1002, Freshness::Fresh),
+            (1, 1001, Freshness::Repeated),
+            (1, 1000, Freshness::Repeated),
+            (1, 999, Freshness::Repeated),
+            (1, 998, Freshness::Fresh),
+            (1, 874, Freshness::Fresh),
+            (1, 873, Freshness::TooOld),
+            (127, 1127, Freshness::Repeated),
+            (127, 1126, Freshness::Fresh),
+            (127, 1000, Freshness::Repeated),
+            (127, 999, Freshness::TooOld),
+            (128, 1128, Freshness::Repeated),
+            (128, 1127, Freshness::Fresh),
+            (128, 1001, Freshness::Fresh),
+            (128, 1000, Freshness::TooOld),
+            (129, 1129, Freshness::Repeated),
+            (129, 1002, Freshness::Fresh),
+            (129, 1001, Freshness::TooOld),
+            (70000, 71001, Freshness::Fresh),
+            (70000, 71000, Freshness::Repeated),
+            (70000, 70999, Freshness::Fresh),
+            (70000, 70873, Freshness::Fresh),
+            (70000, 70872, Freshness::TooOld),
+            (70000, 1000, Freshness::TooOld),
+        ] {
+            let window = window_of(&[1000, 999, 1000 + jump]);
+            assert_eq!(rt; window.fresh(index), want, "{index} after a jump of {jump}");
+        }
+    }
+}

@@ -15,10 +15,10 @@ returns c =
     let index = c.if-seq-last.turn * 65536 + c.args.seq in
     let congruent : index % 65536 ≡ c.args.seq = omega arith in
     let near : is_near c.args.highest index ≡ true =
-        elim c.if-seq-last.branch [
-          then-seq-last+in_ok-turn w ↦ let h = w.in_ok-turn.ensures in grind (arith, nat_tests)
-          | else-seq-last+then-last-seq w ↦ grind (arith, nat_tests)
-          | else-seq-last+else-last-seq w ↦ grind (arith, nat_tests)
-        ]
+    elim c.if-seq-last.branch [
+      | then-seq-last+in_ok-turn w ↦ let h = w.in_ok-turn.ensures in grind (arith, nat_tests)
+      | else-seq-last+then-last-seq w ↦ grind (arith, nat_tests)
+      | else-seq-last+else-last-seq w ↦ grind (arith, nat_tests)
+    ]
     in
     (rw c.from-seq.ensures at c.then_some.ensures) ∙ sym (nearest_in_turn c.args.highest c.args.seq index congruent near)

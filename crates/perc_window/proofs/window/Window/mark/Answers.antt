@@ -10,13 +10,13 @@ returns c = λ accepted stands.
     let kept = rw (← c.self.view_is) at stands in
     let length_moved : length c.move_up.new.behind ≡ 128 = omega arith in
     elim c.match-self.branch [
-      in-Some-2 w ↦
-        let same = same_Some _ _ (sym w.in-Some.is ∙ w.in-Some-2.is) in
-        marked_ahead w.in-Some-2.highest c.args.index _ _ accepted (rw w.in-Some-2.is at kept) (omega arith) c.self.told
-        length_moved (λ k within. rw w.ahead-is at (c.move_up.ensures k (omega arith)))
+      | in-Some-2 w ↦
+          let same = same_Some _ _ (sym w.in-Some.is ∙ w.in-Some-2.is) in
+          marked_ahead w.in-Some-2.highest c.args.index _ _ accepted (rw w.in-Some-2.is at kept) (omega arith) c.self.told
+          length_moved (λ k within. rw w.ahead-is at (c.move_up.ensures k (omega arith)))
       | in-None w ↦
-        marked_first c.args.index _ _ accepted (rw w.in-None.is at kept) length_moved
-        (λ k within.
-            let moved = rw w.ahead-is at (c.move_up.ensures k (omega arith)) in
-            grind (arith, nat_tests))
+          marked_first c.args.index _ _ accepted (rw w.in-None.is at kept) length_moved
+          (λ k within.
+          let moved = rw w.ahead-is at (c.move_up.ensures k (omega arith)) in
+          grind (arith, nat_tests))
     ]
