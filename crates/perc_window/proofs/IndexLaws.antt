@@ -1,5 +1,5 @@
 -- Laws of the nearest index, and of what a receiver says to an index.
-use Rattle.std.proofs.Common.{◌≡◌, ℕ, nat_lt, ◌+◌, ◌%◌, ◌^◌, ◌<◌, ◌≤◌, max, Bool, true, false, eqb, ◌||◌, List, [], ◌∷◌, Option, Some, None, IfSome, IfNone, ◌-◌, ⊎_elim, slice_index_or, refl, sym, arith}
+use Rattle.std.proofs.Common.{◌≡◌, ℕ, nat_lt, ◌+◌, ◌%◌, ◌^◌, ◌<◌, ◌≤◌, max, Bool, true, false, eqb, ◌||◌, List, [], ◌∷◌, Option, Some, None, IfSome, IfNone, ◌-◌, ⊎_elim, refl, sym, arith}
 use Rattle.std.proofs.lemmas.Bool.{cases_lt}
 use Rattle.std.proofs.lemmas.Bool.Decides.{nat_tests}
 use Rattle.std.proofs.lemmas.Option.{same_Some}

@@ -1,9 +1,9 @@
 -- What a window keeps, from one accepted index to the next.
-use Rattle.std.proofs.Common.{◌≡◌, ◌++◌, min, take, drop, replicate, ◌∙◌, ℕ, ◌+◌, ◌-◌, ◌<◌, ◌≤◌, max, Bool, true, false, if◌then◌else◌, nat_lt, List, [], ◌∷◌, Option, Some, None, length, slice_index_or, slice_set, ◌≢◌, ⊎_elim, refl, sym, arith, get_or-set_other}
-use Rattle.std.proofs.lemmas.Bool.{cases_lt, cases_eq}
+use Rattle.std.proofs.Common.{◌≡◌, ◌++◌, min, take, drop, replicate, ◌∙◌, ℕ, ◌+◌, ◌-◌, ◌<◌, ◌≤◌, Bool, true, false, if◌then◌else◌, nat_lt, List, ◌∷◌, Some, None, length, slice_index_or, slice_set, ⊎_elim, sym, arith, get_or-set_other}
+use Rattle.std.proofs.lemmas.Bool.{cases_lt}
 use Rattle.std.proofs.lemmas.List.{get_or_append_left, get_or-append_right, get_or-replicate, get_or-drop, length-take, length-replicate}
 use Rattle.std.proofs.lemmas.Bool.Decides.{nat_tests}
-use Rattle.std.proofs.lemmas.Grind.{common_steps, get_or-set_at}
+use Rattle.std.proofs.lemmas.Grind.{get_or-set_at}
 use Rattle.perc_window.specs.Replay.{StandsFor}
 use Rattle.perc_window.proofs.IndexLaws.{has_none, has_above}
 

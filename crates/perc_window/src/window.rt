@@ -206,34 +206,34 @@ mod tests {
 
     #[test]
     fn freshness_after_a_jump(rt: HostRuntime) {
-        for (jump, index, want) in [
-            (1, 1002, Freshness::Fresh),
-            (1, 1001, Freshness::Repeated),
-            (1, 1000, Freshness::Repeated),
-            (1, 999, Freshness::Repeated),
-            (1, 998, Freshness::Fresh),
-            (1, 874, Freshness::Fresh),
-            (1, 873, Freshness::TooOld),
-            (127, 1127, Freshness::Repeated),
-            (127, 1126, Freshness::Fresh),
-            (127, 1000, Freshness::Repeated),
-            (127, 999, Freshness::TooOld),
-            (128, 1128, Freshness::Repeated),
-            (128, 1127, Freshness::Fresh),
-            (128, 1001, Freshness::Fresh),
-            (128, 1000, Freshness::TooOld),
-            (129, 1129, Freshness::Repeated),
-            (129, 1002, Freshness::Fresh),
-            (129, 1001, Freshness::TooOld),
-            (70000, 71001, Freshness::Fresh),
-            (70000, 71000, Freshness::Repeated),
-            (70000, 70999, Freshness::Fresh),
-            (70000, 70873, Freshness::Fresh),
-            (70000, 70872, Freshness::TooOld),
-            (70000, 1000, Freshness::TooOld),
+        for (next, index, want) in [
+            (1001, 1002, Freshness::Fresh),
+            (1001, 1001, Freshness::Repeated),
+            (1001, 1000, Freshness::Repeated),
+            (1001, 999, Freshness::Repeated),
+            (1001, 998, Freshness::Fresh),
+            (1001, 874, Freshness::Fresh),
+            (1001, 873, Freshness::TooOld),
+            (1127, 1127, Freshness::Repeated),
+            (1127, 1126, Freshness::Fresh),
+            (1127, 1000, Freshness::Repeated),
+            (1127, 999, Freshness::TooOld),
+            (1128, 1128, Freshness::Repeated),
+            (1128, 1127, Freshness::Fresh),
+            (1128, 1001, Freshness::Fresh),
+            (1128, 1000, Freshness::TooOld),
+            (1129, 1129, Freshness::Repeated),
+            (1129, 1002, Freshness::Fresh),
+            (1129, 1001, Freshness::TooOld),
+            (71000, 71001, Freshness::Fresh),
+            (71000, 71000, Freshness::Repeated),
+            (71000, 70999, Freshness::Fresh),
+            (71000, 70873, Freshness::Fresh),
+            (71000, 70872, Freshness::TooOld),
+            (71000, 1000, Freshness::TooOld),
         ] {
-            let window = window_of(&[1000, 999, 1000 + jump]);
-            assert_eq!(rt; window.fresh(index), want, "{index} after a jump of {jump}");
+            let window = window_of(&[1000, 999, next]);
+            assert_eq!(rt; window.fresh(index), want, "{index} after {next}");
         }
     }
 }

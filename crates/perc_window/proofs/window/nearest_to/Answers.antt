@@ -1,6 +1,6 @@
-use Rattle.std.proofs.Common.{◌≡◌, ◌+◌, ◌*◌, ◌<◌, ◌%◌, true, sym, ◌∙◌, arith}
+use Rattle.std.proofs.Common.{◌≡◌, ◌+◌, ◌*◌, ◌%◌, true, sym, ◌∙◌, arith}
 use Rattle.std.proofs.lemmas.Bool.Decides.{nat_tests}
-use Rattle.perc_window.specs.Index.{is_near, nearest}
+use Rattle.perc_window.specs.Index.{is_near}
 use Rattle.perc_window.proofs.IndexLaws.{nearest_in_turn, nearest_below}
 use Rattle.perc_window.proofs.window.nearest_to.Goals as goal
 use Rattle.perc_window.proofs.window.nearest_to.Goals.{then-seq-last+in_ok-turn, else-seq-last+then-last-seq, else-seq-last+else-last-seq}
