@@ -13,7 +13,7 @@ returns c = λ accepted stands.
       | in-Some-2 w ↦
           let same = same_Some _ _ (sym w.in-Some.is ∙ w.in-Some-2.is) in
           marked_ahead w.in-Some-2.highest c.args.index _ _ accepted (rw w.in-Some-2.is at kept) (omega arith) c.self.told
-          length_moved (λ k within. rw w.ahead-is at (c.move_up.ensures k (omega arith)))
+          length_moved (λ k within. let moved = c.move_up.ensures k (omega arith) in let by = w.ahead-is in grind (arith, nat_tests))
       | in-None w ↦
           marked_first c.args.index _ _ accepted (rw w.in-None.is at kept) length_moved
           (λ k within.
