@@ -77,11 +77,11 @@ greatest_bounds (i ∷ accepted) h index is member =
 pub has_above : (accepted : List ℕ) (h index : ℕ) → greatest accepted ≡ Some h → h < index → has accepted index ≡ false
 has_above accepted h index is above = grind (arith, greatest_bounds accepted h index is)
 
--- A fresh index was not accepted,
+-- A fresh index was not accepted.
 pub fresh_has : (accepted : List ℕ) (index : ℕ) → freshness accepted index ≡ Fresh → has accepted index ≡ false
 fresh_has accepted index is = grind arith
 
--- and is less than 128 behind the greatest.
+-- A fresh index is less than 128 behind the greatest.
 pub fresh_recent : (accepted : List ℕ) (index : ℕ) → freshness accepted index ≡ Fresh → is_too_old accepted index ≡ false
 fresh_recent accepted index is = grind arith
 
@@ -93,6 +93,7 @@ freshness_fresh accepted index recent member = grind arith
 pub freshness_repeated : (accepted : List ℕ) (index : ℕ) → is_too_old accepted index ≡ false → has accepted index ≡ true → freshness accepted index ≡ Repeated
 freshness_repeated accepted index recent member = grind arith
 
+-- An index that is too old is so called whether or not it was accepted.
 pub freshness_too_old : (accepted : List ℕ) (index : ℕ) → is_too_old accepted index ≡ true → freshness accepted index ≡ TooOld
 freshness_too_old accepted index old = grind arith
 
@@ -116,7 +117,7 @@ has_first accepted index = grind (arith, nat_tests)
 pub has_other : (accepted : List ℕ) (i index : ℕ) → (i ≡ index → ⊥) → has (i ∷ accepted) index ≡ has accepted index
 has_other accepted i index other = grind (arith, nat_tests)
 
--- the same for each highest index
+-- `freshness_same`, by cases of the highest index
 freshness_same_at : (highest : Option ℕ) (behind : List Bool) (accepted : List ℕ) (index : ℕ) → StandsFor (record { highest = highest; behind = behind }) accepted → freshness_at (record { highest = highest; behind = behind }) index ≡ freshness accepted index
 freshness_same_at None behind accepted index stands = grind (arith, nat_tests, has_none accepted index, stands.highest)
 freshness_same_at (Some h) behind accepted index stands =
