@@ -1,0 +1,4 @@
+mod Writing
+mod Octets
+mod Reading
+pub mod HeaderLaws

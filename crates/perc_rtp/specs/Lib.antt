@@ -1,0 +1,3 @@
+pub mod Header
+pub mod Media
+pub mod Reading
