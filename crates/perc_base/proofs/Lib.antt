@@ -1,0 +1,4 @@
+pub mod Steps
+mod Lists
+mod Taken
+mod Decisions

@@ -1,0 +1,5 @@
+pub mod Outside
+pub mod Lines
+pub mod Room
+pub mod Memory
+pub mod Standard

@@ -1,0 +1,12 @@
+//! What the product reads and writes: sources and sinks of octets, in memory and real ones, and lines of octets.
+#![tactic(auto)]
+
+mod lines;
+mod memory;
+mod outside;
+mod standard;
+
+pub use lines::{LineRead, Lines};
+pub use memory::{FaultlessSource, MemSink, MemSource};
+pub use outside::{Failed, Memory, Sink, Source};
+pub use standard::{StdSink, StdSource};
