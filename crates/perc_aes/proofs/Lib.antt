@@ -1,0 +1,7 @@
+pub mod CipherLaws
+mod Blocks
+mod Mixing
+mod Octets
+mod Rounds
+mod SBox
+mod Words

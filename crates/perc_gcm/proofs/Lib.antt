@@ -1,0 +1,6 @@
+mod Blocks
+mod FieldBody
+pub mod FieldLaws
+pub mod GcmLaws
+mod KeyStream
+mod Tags

@@ -1,0 +1,7 @@
+use Rattle.std.proofs.Common.{List, ℕ, ap, ◌∙◌}
+use Rattle.perc_gcm.specs.Gcm.{element, hash_key}
+use Rattle.perc_gcm.proofs.hash.hash_key.Goals as goal
+
+pub returns : goal.returns
+unfolding element hash_key
+returns c = c.from_be_bytes.ensures ∙ ap (λ (xs : List ℕ). element xs) c.encrypt_block.ensures.value
