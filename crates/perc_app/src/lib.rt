@@ -1,0 +1,10 @@
+//! The top call: what the program does with its words, its input and its outputs.
+#![tactic(auto)]
+
+#[cfg(test)]
+mod tests;
+mod top;
+mod write;
+
+pub use perc_conference::{Counts, ReplayEnd, replay};
+pub use top::{Status, run};

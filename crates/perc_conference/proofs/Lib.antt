@@ -1,0 +1,9 @@
+mod Lists
+mod Contexts
+mod Sound
+mod Mirroring
+mod Turns
+mod Hearing
+mod Saying
+mod Stepping
+mod Running

@@ -1,0 +1,5 @@
+pub mod Hearing
+pub mod Places
+pub mod Mirror
+pub mod Steps
+pub mod Replay
