@@ -1,0 +1,4 @@
+mod Octets
+mod Prepared
+mod Steps
+pub mod WrapLaws
