@@ -4,9 +4,11 @@
 mod lines;
 mod memory;
 mod outside;
+mod profile;
 mod standard;
 
 pub use lines::{LineRead, Lines};
 pub use memory::{FaultlessSource, MemSink, MemSource};
 pub use outside::{Failed, Memory, Sink, Source};
+pub use profile::Profile;
 pub use standard::{StdSink, StdSource};

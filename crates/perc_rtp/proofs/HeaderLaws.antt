@@ -1,13 +1,18 @@
 -- Laws of the spelling of a header, for the crates that read and write packets.
-use Rattle.std.proofs.Common.{◌≡◌, ℕ, zero, suc, ◌+◌, ◌*◌, ◌/◌, ◌<◌, List, [], ◌∷◌, ◌++◌, length, drop, Option, Some, None, refl, sym, ap, ◌∙◌, arith}
+use Rattle.std.proofs.Common.{◌≡◌, ℕ, zero, suc, ◌+◌, ◌-◌, ◌*◌, ◌/◌, ◌^◌, ◌<◌, ◌≤◌, Bool, true, nat_lt, List, [], ◌∷◌, ◌++◌, length, drop, get_or, replicate, Option, Some, None, refl, sym, ap, ◌∙◌, append_assoc, arith}
 use Rattle.std.specs.Prelude.{is_some, IfSome}
 use Rattle.std.specs.Int.{byte_at}
 use Rattle.std.specs.List.{flat_map, All}
-use Rattle.std.proofs.lemmas.List.{drop_at}
+use Rattle.std.proofs.lemmas.Bool.{lt-ltb}
+use Rattle.std.proofs.lemmas.Bool.Decides.{nat_tests}
+use Rattle.std.proofs.lemmas.List.{append-nil, drop_at, get_or_at, length-append, length-replicate}
 use Rattle.std.proofs.lemmas.List.Elements.{All-append, All-cons, All-nil}
 use Rattle.byteorder.specs.Endian.{big_bytes}
 use Rattle.perc_rtp.specs.Header.{Header, first_octet, second_octet, fixed_octets, extension_octets, spelling, IsOctet, IsExtension, IsHeader, IsPacket}
-use Rattle.perc_rtp.proofs.Writing.{spelling-length}
+use Rattle.perc_rtp.specs.Fields.{IsRtp, with_pt, with_seq, with_marker, cut}
+use Rattle.perc_rtp.specs.Media.{padding_octets}
+use Rattle.perc_rtp.specs.Padding.{padding_count, payload_length}
+use Rattle.perc_rtp.proofs.Writing.{padding-length, spelling-length}
 use Rattle.perc_rtp.proofs.Reading.{bit-le, packet_again}
 
 -- how many octets a header has
@@ -61,3 +66,52 @@ spelling-octets h is =
     let csrcs : List ℕ = flat_map (big_bytes 4) h.csrcs in
     All-append IsOctet (fixed_octets h ++ csrcs) (extension_octets h.extension)
     (All-append IsOctet (fixed_octets h) csrcs (fixed-octets h is) (numbers-octets h.csrcs)) (extension-octets h.extension is.extension)
+
+-- ---- headers changed
+
+-- a header stays one when a field of it is set to what fits
+pub IsHeader-with_pt : (h : Header) (pt : ℕ) → IsHeader h → pt < 128 → IsHeader (with_pt pt h)
+IsHeader-with_pt h pt is fits =
+    record { pt = fits; seq = is.seq; timestamp = is.timestamp; ssrc = is.ssrc; csrc_count = is.csrc_count; csrcs = is.csrcs; extension = is.extension }
+
+pub IsHeader-with_seq : (h : Header) (seq : ℕ) → IsHeader h → seq < 2 ^ 16 → IsHeader (with_seq seq h)
+IsHeader-with_seq h seq is fits =
+    record { pt = is.pt; seq = fits; timestamp = is.timestamp; ssrc = is.ssrc; csrc_count = is.csrc_count; csrcs = is.csrcs; extension = is.extension }
+
+pub IsHeader-with_marker : (h : Header) (marker : Bool) → IsHeader h → IsHeader (with_marker marker h)
+IsHeader-with_marker h marker is =
+    record { pt = is.pt; seq = is.seq; timestamp = is.timestamp; ssrc = is.ssrc; csrc_count = is.csrc_count; csrcs = is.csrcs; extension = is.extension }
+
+-- and when it is cut behind its CSRCs
+pub IsHeader-cut : (h : Header) → IsHeader h → IsHeader (cut h)
+IsHeader-cut h is =
+    record { pt = is.pt; seq = is.seq; timestamp = is.timestamp; ssrc = is.ssrc; csrc_count = is.csrc_count; csrcs = is.csrcs; extension = tt }
+
+pub length-cut : (h : Header) → length (spelling (cut h)) ≡ 12 + 4 * length h.csrcs
+length-cut h = omega (arith, spelling-length (cut h))
+
+-- a packet whose header was changed is a packet again
+pub still_reads : (f : Header → Header) (old new : List ℕ) → IsRtp old → ((h : Header) (rest : List ℕ) → IsPacket h rest old → IsPacket (f h) rest new) → IsRtp new
+still_reads f old new is changed = (f is.0, is.1, changed is.0 is.1 is.2)
+
+-- ---- padding
+
+-- what is left of a body whose last octet counts its padding
+counted : (body : List ℕ) (n : ℕ) → suc n ≤ length body → padding_count body ≡ suc n → payload_length true body ≡ Some (length body - suc n)
+counted [] n fits is = absurd (omega arith)
+counted (x ∷ body) n fits is = grind (arith, nat_tests)
+
+-- the padding that a sender writes is what a receiver takes off
+pub padding_comes_off : (payload : List ℕ) (pad : ℕ) → pad < 256 → payload_length (nat_lt 0 pad) (payload ++ padding_octets pad) ≡ Some (length payload)
+padding_comes_off payload zero octet = ap (λ (xs : List ℕ). Some (length xs)) (append-nil payload)
+padding_comes_off payload (suc n) octet =
+    let front : List ℕ = payload ++ replicate n 0 in
+    let body : List ℕ = payload ++ (replicate n 0 ++ suc n ∷ []) in
+    let whole : body ≡ front ++ suc n ∷ [] = sym (append_assoc payload (replicate n 0) (suc n ∷ [])) in
+    let before : length front ≡ length payload + n = length-append payload (replicate n 0) ∙ ap (λ (k : ℕ). length payload + k) (length-replicate n 0) in
+    let long : length body ≡ length payload + suc n = length-append payload (padding_octets (suc n)) ∙ ap (λ (k : ℕ). length payload + k) (padding-length (suc n)) in
+    let place : length body - 1 ≡ length front = omega arith in
+    let last : padding_count body ≡ suc n = ap (λ (k : ℕ). get_or body k 0) place ∙ ap (λ (xs : List ℕ). get_or xs (length front) 0) whole ∙ get_or_at front (suc n) [] 0 (length front) refl in
+    let left : length body - suc n ≡ length payload = omega arith in
+    let padded : nat_lt 0 (suc n) ≡ true = lt-ltb 0 (suc n) (omega arith) in
+    ap (λ (b : Bool). payload_length b body) padded ∙ counted body n (omega arith) last ∙ ap Some left

@@ -1,4 +1,5 @@
 mod Writing
 mod Octets
 mod Reading
+mod Changing
 pub mod HeaderLaws

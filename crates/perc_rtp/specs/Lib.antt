@@ -1,3 +1,6 @@
 pub mod Header
+pub mod Fields
 pub mod Media
+pub mod Padding
+pub mod Carried
 pub mod Reading

@@ -1,6 +1,7 @@
 // The header of an RTP packet, read from its octets.
 ghost use Rattle.std.specs.Prelude.{◌≡◌, ◌≢◌, ◌+◌, ◌/◌, ◌%◌, ◌^◌, ◌<◌, ◌≤◌, ◌==◌, ◌↔◌, List, ℕ, length, drop, IfOk};
 ghost use Rattle.byteorder.specs.Endian.{big_number};
+ghost use Rattle.perc_rtp.specs.Fields.{IsRtp};
 ghost use Rattle.perc_rtp.specs.Reading.{cut_at, end_at, head_at};
 ghost use Rattle.perc_rtp.specs.Header.{Header, IsPacket, IsShort, LacksExtension, head_of, version, cut_len};
 
@@ -47,6 +48,8 @@ impl RtpHead {
     pub fn read(packet: &[u8]) -> Result<RtpHead, RtpFault>
         // What is read is the header of this packet.
         ensures ok { IfOk result (λ head. (h : Header) × (rest : List ℕ) × IsPacket h rest packet.now × (head ≡ head_of h)) }
+        // So the octets are a packet, whose fields can be set.
+        ensures reads { IfOk result (λ _. IsRtp packet.now) }
         // Each packet is read.
         ensures only { (h : Header) (rest : List ℕ) → IsPacket h rest packet.now → result ≡ Ok (head_of h) }
         // And why octets are refused.

@@ -1,10 +1,15 @@
-//! RTP packets: their headers read and written (RFC 3550 section 5).
+//! RTP packets: their headers read, written and changed (RFC 3550 section 5).
 #![tactic(auto)]
 
+mod carried;
+mod fields;
 mod head;
+pub mod laws;
 mod media;
 #[cfg(test)]
 mod tests;
 
+pub use carried::{Carried, RtcpHead, RtcpShape, kind};
+pub use fields::{cut_header, set_marker, set_pt, set_seq, without_padding};
 pub use head::{RtpFault, RtpHead};
 pub use media::{Media, MediaFault, write_packet};

@@ -1,5 +1,8 @@
 // Packets that were spelled out by hand from RFC 3550.
-use crate::{Media, MediaFault, RtpFault, RtpHead, write_packet};
+use crate::{
+    Carried, Media, MediaFault, RtcpHead, RtcpShape, RtpFault, RtpHead, cut_header, kind,
+    set_marker, set_pt, set_seq, without_padding, write_packet,
+};
 
 // P, X, two CSRCs, an extension of two words, the payload "hello" and 3 octets of padding.
 const WHOLE: [u8; 40] = [
@@ -10,6 +13,9 @@ const WHOLE: [u8; 40] = [
 
 // No payload.
 const EMPTY: [u8; 12] = *b"\x80\x00\xff\xff\x00\x00\x00\x00\x11\x11\x11\x11";
+
+// No payload, and the marker.
+const MARKED: [u8; 12] = *b"\x80\xe0\x03\xe8\x00\x00\x00\xa0\x11\x11\x11\x11";
 
 // A header of the fixed part alone.
 fn plain(marker: bool, pt: u8, seq: u16, timestamp: u32, ssrc: u32) -> RtpHead {
@@ -198,5 +204,150 @@ fn refuses_media(rt: HostRuntime) {
         (piece(0, &[], None, &octets, 1), Err(MediaFault::Payload)),
     ] {
         assert_eq!(rt; answer(media), (want, true));
+    }
+}
+
+// Datagrams, and what they carry.
+const CARRIED: [(&[u8], Carried); 14] = [
+    (b"", Carried::Other),
+    (b"\x13", Carried::Other),
+    (b"\x14", Carried::Dtls),
+    (b"\x3f", Carried::Dtls),
+    (b"\x40", Carried::Other),
+    (b"\x7f", Carried::Other),
+    (b"\x80", Carried::Rtp),
+    (b"\x80\xbf", Carried::Rtp),
+    (b"\x80\xc0", Carried::Rtcp),
+    (b"\x80\xdf", Carried::Rtcp),
+    (b"\x80\xe0", Carried::Rtp),
+    (b"\xbf\xc8", Carried::Rtcp),
+    (b"\xc0", Carried::Other),
+    (b"\xff", Carried::Other),
+];
+
+// RTCP packets, and what is read of their heads.
+const RTCP_HEADS: [(&[u8], Result<RtcpHead, RtcpShape>); 4] = [
+    (
+        b"\x80\xc9\x00\x01\x11\x11\x11\x11",
+        Ok(RtcpHead {
+            pt: 201,
+            ssrc: 0x1111_1111,
+        }),
+    ),
+    (b"\x80\xc9\x00\x01\x11\x11\x11", Err(RtcpShape::Short)),
+    (b"\x40\xc9\x00\x01\x11\x11\x11\x11", Err(RtcpShape::Version)),
+    (b"\x40\xc9\x00\x01\x11\x11\x11", Err(RtcpShape::Short)),
+];
+
+#[test]
+fn tells_what_is_carried(rt: HostRuntime) {
+    for (datagram, want) in &CARRIED {
+        assert_eq!(rt; kind(datagram), *want, "{datagram:?}");
+    }
+    for (packet, want) in &RTCP_HEADS {
+        assert_eq!(rt; RtcpHead::read(packet), *want, "{packet:?}");
+    }
+}
+
+// A field that is set.
+#[derive(Clone, Copy, Debug)]
+enum Change {
+    Pt(u8),
+    Seq(u16),
+    Marker(bool),
+}
+
+// A change, and the first four octets of `MARKED` and of `WHOLE` after it.
+const CHANGES: [(Change, [u8; 4], [u8; 4]); 6] = [
+    (Change::Pt(100), *b"\x80\xe4\x03\xe8", *b"\xb2\xe4\x12\x34"),
+    (Change::Pt(0), *b"\x80\x80\x03\xe8", *b"\xb2\x80\x12\x34"),
+    (
+        Change::Seq(1005),
+        *b"\x80\xe0\x03\xed",
+        *b"\xb2\xe0\x03\xed",
+    ),
+    (
+        Change::Seq(65535),
+        *b"\x80\xe0\xff\xff",
+        *b"\xb2\xe0\xff\xff",
+    ),
+    (
+        Change::Marker(false),
+        *b"\x80\x60\x03\xe8",
+        *b"\xb2\x60\x12\x34",
+    ),
+    (
+        Change::Marker(true),
+        *b"\x80\xe0\x03\xe8",
+        *b"\xb2\xe0\x12\x34",
+    ),
+];
+
+// Sets a field of a packet that reads, and answers whether it reads.
+fn set(packet: &mut [u8], change: Change) -> bool {
+    match (RtpHead::read(packet), change) {
+        (Err(_), _) => return false,
+        (Ok(_), Change::Pt(pt)) => set_pt(packet, pt % 128),
+        (Ok(_), Change::Seq(seq)) => set_seq(packet, seq),
+        (Ok(_), Change::Marker(marker)) => set_marker(packet, marker),
+    }
+    true
+}
+
+#[test]
+fn sets_one_field(rt: HostRuntime) {
+    for (change, marked, whole) in &CHANGES {
+        let mut packet = MARKED;
+        assert!(rt; set(&mut packet, *change));
+        assert_eq!(rt; &packet[..4], &marked[..], "{change:?}");
+        assert_eq!(rt; &packet[4..], &MARKED[4..], "{change:?}");
+        let mut packet = WHOLE;
+        assert!(rt; set(&mut packet, *change));
+        assert_eq!(rt; &packet[..4], &whole[..], "{change:?}");
+        assert_eq!(rt; &packet[4..], &WHOLE[4..], "{change:?}");
+    }
+}
+
+// The length of the cut header of a packet that reads.
+fn cut(packet: &[u8], out: &mut [u8; 72]) -> Option<usize> {
+    match RtpHead::read(packet) {
+        Ok(_) => Some(cut_header(packet, out)),
+        Err(_) => None,
+    }
+}
+
+#[test]
+fn cuts_headers(rt: HostRuntime) {
+    let mut out = [0xee; 72];
+    assert_eq!(rt; cut(&WHOLE, &mut out), Some(20));
+    assert_eq!(rt; out[0], 0xa2);
+    assert_eq!(rt; &out[1..20], &WHOLE[1..20]);
+    assert!(rt; out[20..].iter().all(|x| *x == 0xee));
+    // 15 CSRCs, and an extension without words
+    let mut packet = [7; 76];
+    packet[0] = 0x9f;
+    packet[74] = 0;
+    packet[75] = 0;
+    assert_eq!(rt; cut(&packet, &mut out), Some(72));
+    assert_eq!(rt; out[0], 0x8f);
+    assert_eq!(rt; &out[1..], &packet[1..72]);
+}
+
+// The bit P, a body, and how much of it is payload.
+const BODIES: [(bool, &[u8], Option<usize>); 8] = [
+    (false, b"", Some(0)),
+    (true, b"", None),
+    (true, b"\x03\x02\x00", None),
+    (true, b"\x01", Some(0)),
+    (true, b"\x00\x00\x03", Some(0)),
+    (true, b"\x00\x00\x04", None),
+    (true, b"hello\x00\x00\x03", Some(5)),
+    (false, b"hello\x00\x00\x03", Some(8)),
+];
+
+#[test]
+fn takes_padding_off(rt: HostRuntime) {
+    for (padding, body, want) in &BODIES {
+        assert_eq!(rt; without_padding(*padding, body), *want, "{body:?}");
     }
 }

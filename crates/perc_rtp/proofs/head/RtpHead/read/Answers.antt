@@ -21,6 +21,9 @@ returns-clause-ok c =
     let p = packet_in packet c.in_ok-len.len octets t in
     (header_at packet, drop c.in_ok-len.len packet, p.0, c.head_in.ensures ∙ head_is packet c.in_ok-len.len p.1)
 
+pub returns-clause-reads : goal.returns-clause-reads
+returns-clause-reads c = let is = returns-clause-ok c in (is.0, is.1, is.2)
+
 pub returns-clause-only : goal.returns-clause-only
 returns-clause-only c = λ h rest is.
     let packet = c.args.packet.now in

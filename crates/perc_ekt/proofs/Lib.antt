@@ -1,0 +1,5 @@
+pub mod Fields
+pub mod Keys
+pub mod Octets
+pub mod Records
+pub mod Writing

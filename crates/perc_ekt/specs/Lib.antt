@@ -1,0 +1,4 @@
+pub mod Field
+pub mod Key
+pub mod Reading
+pub mod Record
