@@ -9,6 +9,8 @@ use perc_base::{Failed, Sink};
 /// Writes the pieces, one after another.
 pub fn write_pieces<E: Sink>(out: &mut E, pieces: &[&[u8]]) -> Result<(), Failed>
     ensures told { Tells (E.written out.old) (E.written out.new) (concat (map (λ piece. piece.now) pieces.now)) (E.fault_count out.old) (E.fault_count out.new) }
+    ensures whole { OnOk result (IfSome (E.written out.old) (λ before. E.written out.new ≡ Some (before ++ concat (map (λ piece. piece.now) pieces.now)))) }
+    ensures failed { OnErr result (HasRisen (E.fault_count out.old) (E.fault_count out.new)) }
     ensures never_falls { E.fault_count out.old ≤ E.fault_count out.new }
 {
     for piece in pieces {

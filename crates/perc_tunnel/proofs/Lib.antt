@@ -1,0 +1,10 @@
+pub mod Octets
+pub mod Options
+pub mod Pieces
+pub mod Ranges
+pub mod Steps
+pub mod Whole
+pub mod Suiting
+pub mod Judging
+pub mod Streams
+pub mod Written

@@ -1,0 +1,39 @@
+use Rattle.std.proofs.Common.{◌≡◌, ℕ, ◌+◌, ◌-◌, ◌≤◌, ◌∷◌, ◌++◌, length, drop, refl, sym, ap, ◌∙◌, arith}
+use borrow.Rule.Slice.PartMut.{mid_of}
+use Rattle.byteorder.specs.Endian.{big_bytes}
+use Rattle.perc_tunnel.specs.Message.{TunnelMessage, IsMessage, type_of, body, spelling}
+use Rattle.perc_tunnel.specs.Forms.{body_size}
+use Rattle.perc_tunnel.specs.Told.{content_of}
+use Rattle.perc_tunnel.proofs.Written.{written_more, body-length, spelling-length}
+use Rattle.perc_tunnel.proofs.writing.write.Goals as goal
+
+pub returns-then-out-len-clause-length : goal.returns-then-out-len-clause-length
+returns-then-out-len-clause-length c = λ p.
+    let m : TunnelMessage = content_of c.args.message.now in
+    let len : c.in_ok-len.len ≡ body_size m = c.in_ok-len.ensures.1 in
+    let short = c.if-out-len.true in
+    omega (arith, spelling-length m p.0, p.1)
+
+pub returns-clause-length : goal.returns-clause-length
+returns-clause-length c =
+    let m : TunnelMessage = content_of c.args.message.now in
+    let is : IsMessage m = c.in_ok-len.ensures.0 in
+    let len : c.in_ok-len.len ≡ body_size m = c.in_ok-len.ensures.1 in
+    let fits = c.if-out-len.false in
+    let size = spelling-length m is in
+    ((is, omega arith), omega arith)
+
+pub returns-clause-value : goal.returns-clause-value
+unfolding spelling
+returns-clause-value c =
+    let m : TunnelMessage = content_of c.args.message.now in
+    let old = c.args.out.now in
+    let is : IsMessage m = c.in_ok-len.ensures.0 in
+    let n = c.in_ok-len.len in
+    let len : n ≡ body_size m = c.in_ok-len.ensures.1 in
+    let size : length (body m) ≡ n = body-length m is ∙ sym len in
+    let fits : 3 + n ≤ length old = c.if-out-len.false in
+    let o1 = c.write_head.new.out in
+    let part = c.write_body.ensures ∙ ap (λ (k : ℕ). body m ++ drop k (mid_of 3 (length o1 - 3) o1)) (sym len) in
+    written_more (type_of m ∷ big_bytes 2 n) (body m) old o1 c.write_body.new.out 3 n refl size fits c.write_head.ensures part
+    ∙ ap (λ (k : ℕ). (type_of m ∷ (big_bytes 2 k ++ body m)) ++ drop (3 + n) old) (sym size)
