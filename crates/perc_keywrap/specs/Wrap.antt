@@ -1,5 +1,5 @@
 -- AES key wrap with padding (RFC 5649), over AES key wrap (RFC 3394). Keys, plain texts, blocks and registers are lists
--- of octets; a register has 8. The registers stand end to end, the first, A in the standards, before R1 to Rn.
+-- of octets; a register has 8. The registers stand end to end, the first, A in the standards, before the n others.
 use Rattle.std.specs.Prelude.{◌≡◌, ℕ, zero, suc, ◌+◌, ◌-◌, ◌*◌, ◌/◌, ◌%◌, ◌<◌, ◌≤◌, if◌then◌else◌, ◌==◌, List, ◌++◌, length, map, replicate, take, drop, bit_xor, slice_index}
 use Rattle.std.specs.Int.{w32, w64, to_be_bytes}
 use Rattle.std.specs.List.{range_with_len}

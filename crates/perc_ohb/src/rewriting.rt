@@ -1,5 +1,5 @@
 // Headers rewritten by a distributor, and restored.
-ghost use Rattle.std.specs.Prelude.{◌≡◌, ℕ, ◌+◌, ◌%◌, ◌^◌, ◌<◌, ◌≤◌, List, ◌++◌, length, drop, IfSome};
+ghost use Rattle.std.specs.Prelude.{◌≡◌, ℕ, ◌+◌, ◌%◌, ◌^◌, ◌<◌, ◌≤◌, List, ◌++◌, if◌then◌else◌, length, drop, None, Some, IfSome};
 ghost use Rattle.std.specs.Option.{unwrap_or};
 ghost use Rattle.perc_rtp.specs.Header.{Header, IsPacket, spelling};
 ghost use Rattle.perc_rtp.specs.Fields.{IsRtp, with_marker, with_pt, with_seq};
@@ -46,10 +46,7 @@ pub fn rewrite(header: &mut [u8], ohb: &mut Ohb, change: &Change<'_>)
     ensures restored { (g h : Header) (rest after : List ℕ) → IsPacket g rest header.old → IsPacket h after header.new → restored h ohb.new ≡ restored g ohb.old }
     ensures kept_pt { IfSome ohb.new.pt (λ pt. pt < 128) }
 {
-    // a header that reads is read
-    let Ok(head) = RtpHead::read(header) else {
-        return;
-    };
+    let head = RtpHead::read(header).unwrap();
     let seq = head.seq.wrapping_add(change.shift);
     ohb.pt = keep_pt(ohb.pt, head.pt, change.pt.unwrap_or(head.pt));
     ohb.seq = keep_seq(ohb.seq, head.seq, seq);
@@ -79,49 +76,39 @@ pub fn restore(header: &[u8], ohb: &Ohb, out: &mut [u8; 72]) -> usize
     len
 }
 
+// What the block keeps of a field that was `now`: what it kept, where the field doesn't change, and else the original, where
+// the field doesn't go back to that.
+fn keep<T: Copy>(kept: Option<T>, now: T, changes: bool, goes_back: bool) -> Option<T>
+    ensures { result ≡ (if changes then (if goes_back then None else Some (unwrap_or kept now)) else kept) }
+{
+    if !changes {
+        kept
+    } else if goes_back {
+        None
+    } else {
+        Some(kept.unwrap_or(now))
+    }
+}
+
 // What the block keeps of a payload type that was `now` and becomes `new`.
 fn keep_pt(kept: Option<u8>, now: u8, new: u8) -> Option<u8>
     ensures { result ≡ kept_number kept now new }
 {
-    if new == now {
-        return kept;
-    }
-    let original = kept.unwrap_or(now);
-    if new == original {
-        None
-    } else {
-        Some(original)
-    }
+    keep(kept, now, new != now, new == kept.unwrap_or(now))
 }
 
 // The same of a sequence number.
 fn keep_seq(kept: Option<u16>, now: u16, new: u16) -> Option<u16>
     ensures { result ≡ kept_number kept now new }
 {
-    if new == now {
-        return kept;
-    }
-    let original = kept.unwrap_or(now);
-    if new == original {
-        None
-    } else {
-        Some(original)
-    }
+    keep(kept, now, new != now, new == kept.unwrap_or(now))
 }
 
 // The same of a marker.
 fn keep_marker(kept: Option<bool>, now: bool, new: bool) -> Option<bool>
     ensures { result ≡ kept_marker kept now new }
 {
-    if new == now {
-        return kept;
-    }
-    let original = kept.unwrap_or(now);
-    if new == original {
-        None
-    } else {
-        Some(original)
-    }
+    keep(kept, now, new != now, new == kept.unwrap_or(now))
 }
 
 // Sets the payload type of a packet that reads, where one is given.
