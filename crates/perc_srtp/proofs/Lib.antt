@@ -1,0 +1,5 @@
+mod Sealing
+mod Streaming
+pub mod PacketLaws
+mod RtcpSealing
+mod Behind

@@ -1,0 +1,5 @@
+use Rattle.perc_srtp.proofs.PacketLaws.{iv_injective}
+use Rattle.perc_srtp.proofs.laws.each_iv_once.Goals as goal
+
+pub returns : goal.returns
+returns c = iv_injective

@@ -1,0 +1,4 @@
+pub mod Sealed
+pub mod Ends
+pub mod Streams
+pub mod Rtcp
