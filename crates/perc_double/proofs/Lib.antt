@@ -1,0 +1,4 @@
+mod Building
+mod Answering
+pub mod CallerLaws
+mod CutHeaders

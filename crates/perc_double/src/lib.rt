@@ -1,0 +1,11 @@
+//! The double transform (RFC 8723): packets sealed from end to end and hop by hop, relayed, and opened from end to end.
+#![tactic(auto)]
+
+mod ends;
+mod parts;
+mod relaying;
+#[cfg(test)]
+mod tests;
+
+pub use ends::{InnerFault, inner_unseal, seal_double};
+pub use relaying::{RelayFault, relay};
