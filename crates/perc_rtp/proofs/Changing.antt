@@ -80,16 +80,16 @@ pub seq_set : (h : Header) (rest packet part : List ℕ) (n seq : ℕ) → IsPac
     → part ≡ big_bytes 2 seq ++ drop 2 (mid_of n (length packet - n) packet)
     → IsPacket (with_seq seq h) rest (put_mid n (length packet - n) packet part)
 unfolding spelling
-seq_set h rest packet part n seq is place fits is_part =
+seq_set h rest packet part n seq is offset fits is_part =
     let long : 12 ≤ length packet = reads_fixed packet (h, rest, is) in
     let front : List ℕ = first_octet h ∷ second_octet h ∷ [] in
     let whole : packet ≡ front ++ drop 2 packet = is.octets ∙ ap (λ (xs : List ℕ). front ++ drop 2 xs) (sym is.octets) in
-    let at_place : packet ≡ front ++ drop n packet = whole ∙ ap (λ (k : ℕ). front ++ drop k packet) (sym place) in
-    let written = written_more front (big_bytes 2 seq) packet packet part n 2 (sym place) refl (omega arith) at_place is_part in
+    let at_offset : packet ≡ front ++ drop n packet = whole ∙ ap (λ (k : ℕ). front ++ drop k packet) (sym offset) in
+    let written = written_more front (big_bytes 2 seq) packet packet part n 2 (sym offset) refl (omega arith) at_offset is_part in
     record {
       header = IsHeader-with_seq h seq is.header fits;
       octets = written
-          ∙ ap (λ (k : ℕ). (front ++ big_bytes 2 seq) ++ drop (k + 2) packet) place
+          ∙ ap (λ (k : ℕ). (front ++ big_bytes 2 seq) ++ drop (k + 2) packet) offset
           ∙ ap (λ (xs : List ℕ). (front ++ big_bytes 2 seq) ++ drop 4 xs) is.octets;
     }
 

@@ -5,13 +5,13 @@ use Rattle.std.specs.Int.{byte_at}
 use Rattle.std.specs.List.{flat_map, All}
 use Rattle.std.proofs.lemmas.Bool.{lt-ltb}
 use Rattle.std.proofs.lemmas.Bool.Decides.{nat_tests}
-use Rattle.std.proofs.lemmas.List.{append-nil, drop_at, get_or_at, length-append, length-replicate}
+use Rattle.std.proofs.lemmas.List.{append-nil, drop_at, take_at, get_or_at, length-append, length-replicate}
 use Rattle.std.proofs.lemmas.List.Elements.{All-append, All-cons, All-nil}
 use Rattle.byteorder.specs.Endian.{big_bytes}
 use Rattle.perc_rtp.specs.Header.{Header, first_octet, second_octet, fixed_octets, extension_octets, spelling, IsOctet, IsExtension, IsHeader, IsPacket}
 use Rattle.perc_rtp.specs.Fields.{IsRtp, with_pt, with_seq, with_marker, cut}
 use Rattle.perc_rtp.specs.Media.{padding_octets}
-use Rattle.perc_rtp.specs.Padding.{padding_count, payload_length}
+use Rattle.perc_rtp.specs.Padding.{padding_count, payload_length, payload_of}
 use Rattle.perc_rtp.proofs.Writing.{padding-length, spelling-length}
 use Rattle.perc_rtp.proofs.Reading.{bit-le, packet_again}
 
@@ -101,17 +101,22 @@ counted : (body : List ℕ) (n : ℕ) → suc n ≤ length body → padding_coun
 counted [] n fits is = absurd (omega arith)
 counted (x ∷ body) n fits is = grind (arith, nat_tests)
 
--- the padding that a sender writes is what a receiver takes off
-pub padding_comes_off : (payload : List ℕ) (pad : ℕ) → pad < 256 → payload_length (nat_lt 0 pad) (payload ++ padding_octets pad) ≡ Some (length payload)
-padding_comes_off payload zero octet = ap (λ (xs : List ℕ). Some (length xs)) (append-nil payload)
-padding_comes_off payload (suc n) octet =
+-- how much a receiver leaves of what a sender wrote
+left_length : (payload : List ℕ) (pad : ℕ) → pad < 256 → payload_length (nat_lt 0 pad) (payload ++ padding_octets pad) ≡ Some (length payload)
+left_length payload zero octet = ap (λ (xs : List ℕ). Some (length xs)) (append-nil payload)
+left_length payload (suc n) octet =
     let front : List ℕ = payload ++ replicate n 0 in
     let body : List ℕ = payload ++ (replicate n 0 ++ suc n ∷ []) in
     let whole : body ≡ front ++ suc n ∷ [] = sym (append_assoc payload (replicate n 0) (suc n ∷ [])) in
     let before : length front ≡ length payload + n = length-append payload (replicate n 0) ∙ ap (λ (k : ℕ). length payload + k) (length-replicate n 0) in
     let long : length body ≡ length payload + suc n = length-append payload (padding_octets (suc n)) ∙ ap (λ (k : ℕ). length payload + k) (padding-length (suc n)) in
-    let place : length body - 1 ≡ length front = omega arith in
-    let last : padding_count body ≡ suc n = ap (λ (k : ℕ). get_or body k 0) place ∙ ap (λ (xs : List ℕ). get_or xs (length front) 0) whole ∙ get_or_at front (suc n) [] 0 (length front) refl in
+    let offset : length body - 1 ≡ length front = omega arith in
+    let last : padding_count body ≡ suc n = ap (λ (k : ℕ). get_or body k 0) offset ∙ ap (λ (xs : List ℕ). get_or xs (length front) 0) whole ∙ get_or_at front (suc n) [] 0 (length front) refl in
     let left : length body - suc n ≡ length payload = omega arith in
     let padded : nat_lt 0 (suc n) ≡ true = lt-ltb 0 (suc n) (omega arith) in
     ap (λ (b : Bool). payload_length b body) padded ∙ counted body n (omega arith) last ∙ ap Some left
+
+-- the padding that a sender writes is what a receiver takes off
+pub padding_comes_off : (payload : List ℕ) (pad : ℕ) → pad < 256 → payload_of (nat_lt 0 pad) (payload ++ padding_octets pad) ≡ Some payload
+padding_comes_off payload pad octet =
+    rw (left_length payload pad octet) (ap Some (take_at payload (padding_octets pad) (length payload) refl))

@@ -3,3 +3,4 @@ mod Octets
 mod Reading
 mod Changing
 pub mod HeaderLaws
+pub mod PacketLaws

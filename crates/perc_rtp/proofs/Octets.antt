@@ -4,14 +4,22 @@ use Rattle.std.specs.List.{flat_map, All}
 use Rattle.std.proofs.lemmas.Bool.{cases_lt}
 use Rattle.std.proofs.lemmas.Nat.{be_bytes_2, be_bytes_4}
 use Rattle.std.proofs.lemmas.List.{drop-drop, get_or-drop, get_or-take, get_or_past, length-take, length-drop, take-append-drop}
-use Rattle.std.proofs.lemmas.List.Elements.{All-cons, All-nil, All-head, All-tail}
+use Rattle.std.proofs.lemmas.List.Elements.{All-cons, All-nil, All-head, All-tail, All-get_or}
 use Rattle.byteorder.specs.Endian.{big_bytes, big_number}
 use Rattle.byteorder.specs.Numbers.{big_number-reads_back}
+use Rattle.perc_rtp.specs.Header.{IsOctet}
 use Rattle.perc_rtp.specs.Reading.{numbers}
 
 -- each is an octet
 abbrev pub AreOctets : List ℕ → Type 0
 AreOctets xs = (i : ℕ) → get_or xs i 0 < 256
+
+pub AreOctets-all : (xs : List ℕ) → All IsOctet xs → AreOctets xs
+AreOctets-all xs h i =
+    elim (cases_lt i (length xs)) [
+      | inl lt ↦ All-get_or IsOctet xs i 0 lt h
+      | inr past ↦ rw (get_or_past xs i 0 past) (omega arith)
+    ]
 
 pub AreOctets-drop : (n : ℕ) (xs : List ℕ) → AreOctets xs → AreOctets (drop n xs)
 AreOctets-drop n xs h i = rw get_or-drop (h (n + i))
@@ -61,8 +69,8 @@ numbers_spelled zero xs h fits = (refl, All-nil (λ c. c < 2 ^ 32))
 numbers_spelled (suc n) xs h fits =
     let one = four_spelled xs (omega arith) fits in
     let more = numbers_spelled n (drop 4 xs) (omega (arith, length-drop 4 xs)) (AreOctets-drop 4 xs fits) in
-    let place : 4 + 4 * n ≡ 4 * suc n = omega arith in
-    let rest : drop (4 * n) (drop 4 xs) ≡ drop (4 * suc n) xs = drop-drop (4 * n) 4 xs ∙ ap (λ (k : ℕ). drop k xs) place in
+    let offset : 4 + 4 * n ≡ 4 * suc n = omega arith in
+    let rest : drop (4 * n) (drop 4 xs) ≡ drop (4 * suc n) xs = drop-drop (4 * n) 4 xs ∙ ap (λ (k : ℕ). drop k xs) offset in
     let front = big_bytes 4 (big_number 4 xs) in
     let others : List ℕ = flat_map (big_bytes 4) (numbers n (drop 4 xs)) in (
       append_assoc front others (drop (4 * suc n) xs)

@@ -136,8 +136,8 @@ extension_part true packet len fits cut end =
     let is : n ≡ big_number 2 (drop 2 q) = ap (big_number 2) (sym (drop-drop 2 (cut_len packet) packet)) in
     let x = extension_in q n is (omega (arith, length-drop (cut_len packet) packet)) (AreOctets-drop (cut_len packet) packet fits) in
     let y = subst (λ (r : List ℕ). (extension_octets (Some (big_number 2 q, take (4 * n) r)) ++ drop (4 + 4 * n) q ≡ q) × IsExtension (big_number 2 q, take (4 * n) r) × (length (extension_octets (Some (big_number 2 q, take (4 * n) r))) ≡ 4 + 4 * n)) (drop-drop 4 (cut_len packet) packet) x in
-    let place : cut_len packet + (4 + 4 * n) ≡ len = omega (arith, t.1) in
-    let last : drop (4 + 4 * n) q ≡ drop len packet = drop-drop (4 + 4 * n) (cut_len packet) packet ∙ ap (λ (k : ℕ). drop k packet) place in (
+    let offset : cut_len packet + (4 + 4 * n) ≡ len = omega (arith, t.1) in
+    let last : drop (4 + 4 * n) q ≡ drop len packet = drop-drop (4 + 4 * n) (cut_len packet) packet ∙ ap (λ (k : ℕ). drop k packet) offset in (
       ap (λ (r : List ℕ). extension_octets (Some (extension_at packet)) ++ r) (sym last) ∙ y.0,
       y.1,
       omega (arith, y.2),

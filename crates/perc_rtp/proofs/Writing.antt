@@ -41,8 +41,8 @@ fours_more xs old new part i x lt is_x fits is_new is_part =
     ap (λ (r : List ℕ). w ++ r) (ap (big_bytes 4) is_x ∙ sym (append-nil (big_bytes 4 (get_or xs i 0))))
     ∙ sym (flat_map-append (big_bytes 4) (take i xs) (get_or xs i 0 ∷ []))
     ∙ ap (flat_map (big_bytes 4)) (sym (take_more xs i 0 lt)) in
-    let place : 4 * i + 4 ≡ 4 * (i + 1) = omega arith in
-    more ∙ ap (λ (r : List ℕ). r ++ drop (4 * i + 4) old) one ∙ ap (λ (n : ℕ). flat_map (big_bytes 4) (take (i + 1) xs) ++ drop n old) place
+    let offset : 4 * i + 4 ≡ 4 * (i + 1) = omega arith in
+    more ∙ ap (λ (r : List ℕ). r ++ drop (4 * i + 4) old) one ∙ ap (λ (n : ℕ). flat_map (big_bytes 4) (take (i + 1) xs) ++ drop n old) offset
 
 pub padding-length : (n : ℕ) → length (padding_octets n) ≡ n
 padding-length zero = refl

@@ -1,5 +1,6 @@
 -- What stands before the padding of a packet (RFC 3550 section 5.1).
-use Rattle.std.specs.Prelude.{ℕ, ◌-◌, Bool, true, false, ◌||◌, ◌==◌, nat_lt, if◌then◌else◌, List, [], ◌∷◌, length, Option, Some, None, slice_index}
+use Rattle.std.specs.Prelude.{ℕ, ◌-◌, Bool, true, false, ◌||◌, ◌==◌, nat_lt, if◌then◌else◌, List, [], ◌∷◌, length, take, Option, Some, None, slice_index}
+use Rattle.std.specs.Option.{option_map}
 
 -- the last octet, which counts the padding
 abbrev pub padding_count : List ℕ → ℕ
@@ -13,3 +14,7 @@ payload_length true [] = None
 payload_length true (x ∷ body) =
     if padding_count (x ∷ body) == 0 || nat_lt (length (x ∷ body)) (padding_count (x ∷ body)) then None
     else Some (length (x ∷ body) - padding_count (x ∷ body))
+
+-- the payload of a body
+abbrev pub payload_of : Bool → List ℕ → Option (List ℕ)
+payload_of padding body = option_map (λ n. take n body) (payload_length padding body)

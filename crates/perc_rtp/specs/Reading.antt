@@ -1,5 +1,6 @@
 -- The header that stands at the front of octets, and what is answered for octets, the first fault first.
 use Rattle.std.specs.Prelude.{ℕ, zero, suc, ◌+◌, ◌*◌, ◌/◌, ◌%◌, Bool, not, ◌==◌, nat_lt, if◌then◌else◌, List, [], ◌∷◌, length, take, drop, Some, None, Result, Ok, Err, slice_index}
+use Rattle.std.specs.Result.{result_and, result_map_both}
 use Rattle.byteorder.specs.Endian.{big_number}
 use Rattle.perc_rtp.specs.declared.head.RtpHead.{RtpHead}
 use Rattle.perc_rtp.specs.declared.head.RtpFault.{RtpFault}
@@ -67,3 +68,7 @@ end_at packet =
     if not (has_extension packet) then Ok (cut_len packet)
     else (if nat_lt (length packet) (cut_len packet + 4) then Err Extension
     else (if nat_lt (length packet) (extension_end packet) then Err Extension else Ok (extension_end packet)))
+
+-- the header and the rest of the packet that octets are, or the first fault
+unfoldable pub packet_of : List ℕ → Result (Header × List ℕ) RtpFault
+packet_of octets = result_map_both (λ len. (header_at octets, drop len octets)) (λ fault. fault) (result_and (cut_at octets) (end_at octets))

@@ -1,8 +1,9 @@
 // Fields of a header changed in place, the header cut behind its CSRCs, and the padding taken off.
-ghost use Rattle.std.specs.Prelude.{◌≡◌, ℕ, ◌+◌, ◌*◌, ◌/◌, ◌%◌, ◌<◌, ◌≤◌, List, ◌++◌, length, drop};
+ghost use Rattle.std.specs.Prelude.{◌≡◌, ℕ, ◌+◌, ◌*◌, ◌/◌, ◌%◌, ◌<◌, ◌≤◌, List, ◌++◌, length, take, drop};
+ghost use Rattle.std.specs.Option.{option_map};
 ghost use Rattle.perc_rtp.specs.Header.{Header, IsPacket, bit, spelling};
 ghost use Rattle.perc_rtp.specs.Fields.{IsRtp, cut, with_marker, with_pt, with_seq};
-ghost use Rattle.perc_rtp.specs.Padding.{payload_length};
+ghost use Rattle.perc_rtp.specs.Padding.{payload_length, payload_of};
 
 use byteorder::{BigEndian, ByteOrder};
 
@@ -79,7 +80,8 @@ fn without_extension(octet: u8) -> u8
 /// How many octets of a packet's body are payload, where the bit P of its header is `padding` (RFC 3550 section 5.1).
 /// None exactly where it is set and the body is empty, or its last octet is 0 or above the body's length.
 pub fn without_padding(padding: bool, body: &[u8]) -> Option<usize>
-    ensures { result ≡ payload_length padding body.now }
+    ensures len { result ≡ payload_length padding body.now }
+    ensures payload { option_map (λ n. take n body.now) result ≡ payload_of padding body.now }
 {
     if !padding {
         return Some(body.len());

@@ -1,9 +1,9 @@
 // The header of an RTP packet, read from its octets.
-ghost use Rattle.std.specs.Prelude.{◌≡◌, ◌≢◌, ◌+◌, ◌/◌, ◌%◌, ◌^◌, ◌<◌, ◌≤◌, ◌==◌, ◌↔◌, List, ℕ, length, drop, IfOk};
+ghost use Rattle.std.specs.Prelude.{◌≡◌, ◌+◌, ◌/◌, ◌%◌, ◌^◌, ◌<◌, ◌≤◌, ◌==◌, List, ℕ, length, drop, Ok, Err, IfOk, MatchResult};
 ghost use Rattle.byteorder.specs.Endian.{big_number};
 ghost use Rattle.perc_rtp.specs.Fields.{IsRtp};
-ghost use Rattle.perc_rtp.specs.Reading.{cut_at, end_at, head_at};
-ghost use Rattle.perc_rtp.specs.Header.{Header, IsPacket, IsShort, LacksExtension, head_of, version, cut_len};
+ghost use Rattle.perc_rtp.specs.Reading.{cut_at, end_at, head_at, packet_of};
+ghost use Rattle.perc_rtp.specs.Header.{Header, IsPacket, head_of, cut_len};
 
 use byteorder::{BigEndian, ByteOrder};
 
@@ -52,10 +52,8 @@ impl RtpHead {
         ensures reads { IfOk result (λ _. IsRtp packet.now) }
         // Each packet is read.
         ensures only { (h : Header) (rest : List ℕ) → IsPacket h rest packet.now → result ≡ Ok (head_of h) }
-        // And why octets are refused.
-        ensures short { (result ≡ Err RtpFault.Short) ↔ IsShort packet.now }
-        ensures version { (result ≡ Err RtpFault.Version) ↔ ((12 ≤ length packet.now) × (version packet.now ≢ 2)) }
-        ensures extension { (result ≡ Err RtpFault.Extension) ↔ LacksExtension packet.now }
+        // And what is answered for any octets, the first fault first.
+        ensures answer { MatchResult (packet_of packet.now) (λ read. result ≡ Ok (head_of read.0)) (λ fault. result ≡ Err fault) }
     {
         let cut = csrcs_end(packet)?;
         let len = header_end(packet, cut)?;
@@ -120,12 +118,12 @@ fn head_in(packet: &[u8], cut: usize, len: usize) -> RtpHead
     }
 }
 
-// Whether the bit at this place is set, counted from the lowest.
-fn is_set(octet: u8, place: u8) -> bool
-    requires { place < 8 }
-    ensures { result ≡ (octet / 2 ^ place % 2 == 1) }
+// Whether a bit is set, counted from the lowest.
+fn is_set(octet: u8, bit: u8) -> bool
+    requires { bit < 8 }
+    ensures { result ≡ (octet / 2 ^ bit % 2 == 1) }
 {
-    (octet >> place) & 1 == 1
+    (octet >> bit) & 1 == 1
 }
 
 // The number in the two octets from `at`.
