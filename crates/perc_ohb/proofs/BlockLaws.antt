@@ -92,10 +92,10 @@ config_passes : (n c : ℕ) → 1 ≤ n → c / 16 ≡ 0 → eqb (c / 4 % 4) 2 �
     → cond (eqb n 0) (Err Empty) (cond (not (eqb (c / 16) 0)) (Err Reserved) (cond (eqb (c / 4 % 4) 2) (Err Marker) (Ok c))) ≡ Ok c
 config_passes n c some high whole = grind (arith, nat_tests)
 
--- where the sequence number stands, counted from both ends
-seq_place : (o : Option ℕ) (b p l q total n : ℕ) → l ≡ b + p → q ≡ bit (is_some o) → total ≡ b + (1 + p + 2 * q) → n ≡ total - 3 → IfSome o (λ _. l ≡ n)
-seq_place None b p l q total n l_is q_is total_is n_is = tt
-seq_place (Some seq) b p l q total n l_is q_is total_is n_is = omega arith
+-- the offset of the sequence number, counted from both ends
+number_at : (o : Option ℕ) (b p l q total n : ℕ) → l ≡ b + p → q ≡ bit (is_some o) → total ≡ b + (1 + p + 2 * q) → n ≡ total - 3 → IfSome o (λ _. l ≡ n)
+number_at None b p l q total n l_is q_is total_is n_is = tt
+number_at (Some seq) b p l q total n l_is q_is total_is n_is = omega arith
 
 -- octets that end in a block are read as that block
 pub stands : (o : Ohb) (before octets : List ℕ) → EndsIn o before octets → Stands o before octets
@@ -123,7 +123,7 @@ stands o before octets is =
       fits = total;
       pt = pt_again o.pt (last_config octets / 2 % 2) (kept_pt octets) (length octets - block_length (last_config octets)) octets before (q ++ c) is.block.pt p_is at_pt (omega arith) refl;
       seq = seq_again o.seq (last_config octets % 2) (length octets - 3) octets (before ++ p) c is.block.seq q_is at_seq
-          (seq_place o.seq (length before) (bit (is_some o.pt)) (length (before ++ p)) (bit (is_some o.seq)) (length octets) (length octets - 3) front refl (omega arith) refl);
+          (number_at o.seq (length before) (bit (is_some o.pt)) (length (before ++ p)) (bit (is_some o.seq)) (length octets) (length octets - 3) front refl (omega arith) refl);
       marker = ap marker_in last ∙ says.marker;
     }
 
@@ -187,8 +187,10 @@ pt_spelled (suc zero) n m octets (Some pt) small m_is h is =
     let k = get_or octets (length octets - m) 0 in
     let read = pt_read (leb 128 k) k pt is in
     let fits : k < 128 = leb-false 128 k read.0 in
+    let here : drop (length octets - m) octets ≡ drop (length octets - (n + 1)) octets = ap (λ (j : ℕ). drop (length octets - j) octets) m_is in
+    let first : get_or octets (length octets - (n + 1)) 0 ≡ k = ap (λ (j : ℕ). get_or octets (length octets - j) 0) (sym m_is) in
     let next : drop (length octets - m) octets ≡ k ∷ drop (length octets - n) octets =
-    ap (λ (j : ℕ). drop (length octets - j) octets) m_is ∙ one_more n octets (omega arith) ∙ ap (λ (j : ℕ). get_or octets (length octets - j) 0 ∷ drop (length octets - n) octets) (sym m_is) in
+    here ∙ one_more n octets (omega arith) ∙ ap (λ (x : ℕ). x ∷ drop (length octets - n) octets) first in
     (ap (λ (x : ℕ). x ∷ drop (length octets - n) octets) (sym read.1) ∙ sym next, omega arith, refl)
 pt_spelled (suc (suc p)) n m octets o small m_is h is = absurd (omega arith)
 
@@ -227,14 +229,14 @@ reads octets c len pt seq marker fits config_is len_is within pt_is seq_is marke
     let o : Ohb = record { pt = pt; seq = seq; marker = marker } in
     let config_again : config o ≡ k = omega arith in
     let n : ℕ = length octets - len in
-    let place : length octets - block_length k ≡ n = ap (λ (j : ℕ). length octets - j) (sym long) in
+    let offset : length octets - block_length k ≡ n = ap (λ (j : ℕ). length octets - j) (sym long) in
     let spelled : spelling o ≡ drop n octets =
     ap (λ (j : ℕ). (pt_octets pt ++ seq_octets seq) ++ j ∷ []) config_again
     ∙ append_assoc (pt_octets pt) (seq_octets seq) (k ∷ [])
     ∙ ap (λ (q : Option ℕ). pt_octets pt ++ (seq_octets q ++ k ∷ [])) seq_is
     ∙ ap (λ (r : List ℕ). pt_octets pt ++ r) ends.0
     ∙ starts.0
-    ∙ ap (λ (j : ℕ). drop j octets) place in (
+    ∙ ap (λ (j : ℕ). drop j octets) offset in (
       take n octets,
       record {
         block = record { pt = starts.1; seq = subst (λ (q : Option ℕ). IfSome q (λ seq. seq < 2 ^ 16)) (sym seq_is) ends.1 };
@@ -255,10 +257,10 @@ one_block o p before others octets is also =
     let seq : o.seq ≡ p.seq = sym s.seq ∙ t.seq in
     let marker : o.marker ≡ p.marker = sym s.marker ∙ t.marker in
     let len : length (spelling o) ≡ length (spelling p) = sym s.len ∙ t.len in
-    let place : length before ≡ length others = omega arith in
+    let offset : length before ≡ length others = omega arith in
     let front = s.fits in (
       λ i. record { pt = pt i; seq = seq i; marker = marker i },
-      sym (take_at before (spelling o) (length before) refl) ∙ ap (take (length before)) (sym is.split ∙ also.split) ∙ take_at others (spelling p) (length before) (sym place),
+      sym (take_at before (spelling o) (length before) refl) ∙ ap (take (length before)) (sym is.split ∙ also.split) ∙ take_at others (spelling p) (length before) (sym offset),
     )
 
 -- ---- for the reader

@@ -1,3 +1,4 @@
 pub mod BlockLaws
+pub mod ReadingLaws
 pub mod RewritingLaws
 mod Writing

@@ -1,12 +1,12 @@
 -- What is put back of a header that was changed.
-use Rattle.std.proofs.Common.{◌≡◌, ℕ, ◌+◌, ◌^◌, ◌<◌, Bool, true, false, List, ◌∷◌, length, drop, get_or, Option, Some, None, refl, sym, ap, ◌∙◌, arith}
+use Rattle.std.proofs.Common.{◌≡◌, ℕ, ◌+◌, ◌^◌, ◌<◌, Bool, true, false, List, [], ◌∷◌, length, drop, get_or, Option, Some, None, refl, sym, ap, ◌∙◌, arith}
 use Rattle.std.specs.Prelude.{IfSome, IsTrue, cond, ◌==◌}
 use Rattle.perc_rtp.specs.Media.{is_payload_type}
 use Rattle.std.specs.Option.{unwrap_or}
 use Rattle.std.proofs.lemmas.Bool.Decides.{nat_tests}
 use Rattle.perc_rtp.specs.Header.{Header, IsHeader, IsPacket, spelling}
 use Rattle.std.proofs.lemmas.List.{drop_more}
-use Rattle.perc_rtp.specs.Fields.{IsRtp, cut}
+use Rattle.perc_rtp.specs.Fields.{IsRtp, cut, with_extension}
 use Rattle.perc_ohb.specs.declared.block.Ohb.{Ohb}
 use Rattle.perc_ohb.specs.declared.rewriting.Change.{Change}
 use Rattle.perc_ohb.specs.declared.rewriting.ExtChange.TheVariants.{Keep}
@@ -40,6 +40,15 @@ restored_after h o c =
     let seq : unwrap_or (block_after h o c).seq (changed h c).seq ≡ unwrap_or o.seq h.seq = number_back o.seq h.seq (changed h c).seq in
     let marker : unwrap_or (block_after h o c).marker (changed h c).marker ≡ unwrap_or o.marker h.marker = marker_back o.marker h.marker (changed h c).marker in
     λ i. record (cut h) { pt = pt i; seq = seq i; marker = marker i }
+
+-- whatever becomes of the extension
+pub restored_with : (h : Header) (o : Ohb) (c : Change) (e : Option (ℕ × List ℕ)) → restored (with_extension e (changed h c)) (block_after h o c) ≡ restored h o
+restored_with h o c e = restored_after h o c
+
+-- and so does every list of changes
+pub restored_after_all : (h : Header) (o : Ohb) (cs : List Change) → restored (changed_by cs h o) (block_by cs h o) ≡ restored h o
+restored_after_all h o [] = refl
+restored_after_all h o (c ∷ cs) = restored_after_all (changed h c) (block_after h o c) cs ∙ restored_after h o c
 
 -- the same of the packets that begin with these headers
 pub restored_same : (g h : Header) (rest after old new : List ℕ) (o p : Ohb) (c : Change) → IsPacket h after new

@@ -1,7 +1,7 @@
 // The Original Header Block.
-ghost use Rattle.std.specs.Prelude.{◌≡◌, ℕ, ◌+◌, ◌/◌, ◌%◌, ◌^◌, ◌<◌, ◌≤◌, ◌==◌, List, ◌++◌, length, drop, Some, None, IfOk, IfSome, MatchResult};
-ghost use Rattle.perc_ohb.specs.Block.{EndsIn, IsOhb, block_length, config, last_config, marker_bits, ohb_fault, pt_octets, seq_octets, spelling};
-ghost use Rattle.perc_ohb.specs.Reading.{config_at, marker_in, pt_at, seq_at};
+ghost use Rattle.std.specs.Prelude.{◌≡◌, ℕ, ◌+◌, ◌/◌, ◌%◌, ◌^◌, ◌<◌, ◌≤◌, ◌==◌, List, ◌++◌, length, drop, Ok, Err, IfOk, IfSome, MatchResult};
+ghost use Rattle.perc_ohb.specs.Block.{EndsIn, IsOhb, block_length, config, last_config, marker_bits, pt_octets, seq_octets, spelling};
+ghost use Rattle.perc_ohb.specs.Reading.{block_of, config_at, marker_in, pt_at, seq_at};
 
 use byteorder::{BigEndian, ByteOrder};
 
@@ -31,7 +31,7 @@ pub enum OhbFault {
     Pt,
 }
 
-// The places of the Config octet's bits, from the lowest.
+// The Config octet's bits, counted from the lowest.
 const KEEPS_SEQ: u8 = 0;
 
 const KEEPS_PT: u8 = 1;
@@ -49,8 +49,8 @@ impl Ohb {
         ensures within { IfOk result (λ read. (1 ≤ read.1) × (read.1 ≤ 4) × (read.1 ≤ length bytes.now)) }
         // A block that they end in is read.
         ensures only { (o : Ohb) (before : List ℕ) → EndsIn o before bytes.now → result ≡ Ok (o, length (spelling o)) }
-        // And why they are refused.
-        ensures fault { MatchResult result (λ _. ohb_fault bytes.now ≡ None) (λ fault. ohb_fault bytes.now ≡ Some fault) }
+        // And what is answered for any octets, the first fault first.
+        ensures answer { MatchResult (block_of bytes.now) (λ read. result ≡ Ok (read.1, length (spelling read.1))) (λ fault. result ≡ Err fault) }
     {
         let config = read_config(bytes)?;
         let len = len_by(config);
@@ -145,12 +145,12 @@ fn read_marker(config: u8) -> Option<bool>
     Some(is_set(config, MARKER))
 }
 
-// Whether the bit at this place is set, counted from the lowest.
-fn is_set(octet: u8, place: u8) -> bool
-    requires { place < 8 }
-    ensures { result ≡ (octet / 2 ^ place % 2 == 1) }
+// Whether a bit is set, counted from the lowest.
+fn is_set(octet: u8, bit: u8) -> bool
+    requires { bit < 8 }
+    ensures { result ≡ (octet / 2 ^ bit % 2 == 1) }
 {
-    (octet >> place) & 1 == 1
+    (octet >> bit) & 1 == 1
 }
 
 // Writes the payload type to the front, where it is kept, and answers how many octets that took.

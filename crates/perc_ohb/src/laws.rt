@@ -1,12 +1,13 @@
 //! What holds of every list of changes.
-ghost use Rattle.std.specs.Prelude.{◌≡◌, ℕ, ◌<◌, List, IfSome};
+ghost use Rattle.std.specs.Prelude.{◌≡◌, ◌↔◌, ℕ, ◌<◌, List, Option, Some, IfSome, Ok, Err};
 ghost use Rattle.std.specs.List.{All};
-ghost use Rattle.perc_rtp.specs.Header.{Header, IsPacket};
-ghost use Rattle.perc_rtp.specs.Fields.{IsRtp};
-ghost use Rattle.perc_ohb.specs.Block.{EndsIn};
-ghost use Rattle.perc_ohb.specs.Rewriting.{IsChange, block_by, changed_by, restored};
+ghost use Rattle.perc_rtp.specs.Header.{Header, IsHeader, IsOctet, IsPacket};
+ghost use Rattle.perc_rtp.specs.Fields.{IsRtp, with_extension};
+ghost use Rattle.perc_ohb.specs.Block.{EndsIn, IsOhb, ohb_fault};
+ghost use Rattle.perc_ohb.specs.Reading.{block_of};
+ghost use Rattle.perc_ohb.specs.Rewriting.{IsChange, block_after, block_by, changed, changed_by, restored};
 
-use crate::{Change, Ohb, rewrite};
+use crate::{Change, Ohb, OhbFault, rewrite};
 
 /// Rewrites by each change in turn. However many there are, what is put back is what was put back before the first.
 pub fn rewrite_all(header: &mut [u8], ohb: &mut Ohb, changes: &[Change<'_>])
@@ -26,4 +27,26 @@ pub fn rewrite_all(header: &mut [u8], ohb: &mut Ohb, changes: &[Change<'_>])
 /// Octets end in one block at most. The function does nothing.
 pub fn one_block()
     ensures { (o p : Ohb) (before others octets : List ℕ) → EndsIn o before octets → EndsIn p others octets → (o ≡ p) × (before ≡ others) }
+{}
+
+/// Octets are read as the block that they end in and what stands before it, and as nothing else; and they are refused for the
+/// first thing that keeps them from it. The function does nothing.
+pub fn one_reading()
+    ensures block { (o : Ohb) (before octets : List ℕ) → All IsOctet octets → (block_of octets ≡ Ok (before, o)) ↔ EndsIn o before octets }
+    ensures read { (o : Ohb) (before octets : List ℕ) → EndsIn o before octets → block_of octets ≡ Ok (before, o) }
+    ensures fault { (octets : List ℕ) (fault : OhbFault) → (block_of octets ≡ Err fault) ↔ (ohb_fault octets ≡ Some fault) }
+{}
+
+/// A change leaves what is put back as it was, whatever header and block there were, and whatever becomes of the extension; so
+/// does every list of changes. The function does nothing.
+pub fn originals_put_back()
+    ensures change { (h : Header) (o : Ohb) (c : Change) → restored (changed h c) (block_after h o c) ≡ restored h o }
+    ensures extension { (h : Header) (o : Ohb) (c : Change) (e : Option (ℕ × List ℕ)) → restored (with_extension e (changed h c)) (block_after h o c) ≡ restored h o }
+    ensures changes { (h : Header) (o : Ohb) (cs : List Change) → restored (changed_by cs h o) (block_by cs h o) ≡ restored h o }
+{}
+
+/// A header that is changed stays one, and so does the block after it. The function does nothing.
+pub fn fields_fit()
+    ensures header { (h : Header) (c : Change) → IsHeader h → IsChange c → IsHeader (changed h c) }
+    ensures block { (h : Header) (o : Ohb) (c : Change) → IsHeader h → IsOhb o → IsOhb (block_after h o c) }
 {}

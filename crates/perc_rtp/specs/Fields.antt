@@ -1,5 +1,5 @@
 -- One field of a header changed, and the header cut behind its CSRCs (RFC 3550 section 5.1, RFC 8723 section 5.1).
-use Rattle.std.specs.Prelude.{ℕ, Bool, List, None}
+use Rattle.std.specs.Prelude.{ℕ, Bool, List, Option, None}
 use Rattle.perc_rtp.specs.Header.{Header, IsPacket}
 
 -- The octets are a packet: some header, and some rest.
@@ -18,3 +18,7 @@ with_marker marker h = record h { marker = marker }
 -- the header without its extension: it ends with the CSRCs, and its bit X is clear
 abbrev pub cut : Header → Header
 cut h = record h { extension = None }
+
+-- the header with another extension, or with none
+abbrev pub with_extension : Option (ℕ × List ℕ) → Header → Header
+with_extension extension h = record h { extension = extension }

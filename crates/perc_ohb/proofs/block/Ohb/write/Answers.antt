@@ -16,5 +16,5 @@ returns-clause-value c =
     let n = c.write_pt-pt.result in
     let k = c.write_seq-seq.result in
     let room : n + k < 4 = omega (arith, fields_room o) in
-    written_parts pt seq c.args.out.now c.write_pt-pt.new.out c.write_seq-seq.new.out 4 n k c.config_octet.result c.told-out c.write_pt-pt.ensures.len c.write_seq-seq.ensures.len room c.write_pt-pt.ensures.value c.write_seq-seq.ensures.value
+    written_parts pt seq c.args.out.now _ _ 4 n k _ c.told-out c.write_pt-pt.ensures.len c.write_seq-seq.ensures.len room c.write_pt-pt.ensures.value c.write_seq-seq.ensures.value
     ∙ ap (λ (x : ℕ). ((pt ++ seq) ++ x ∷ []) ++ drop (n + k + 1) c.args.out.now) c.config_octet.ensures
