@@ -1,5 +1,5 @@
 -- Laws of sealed packets, of their IVs, and of the indices that they take.
-use Rattle.std.proofs.Common.{◌≡◌, ℕ, ◌/◌, ◌%◌, ◌^◌, ◌<◌, List, [], ◌∷◌, ◌++◌, length, drop, take, get_or, bit_xor, false, refl, sym, ap, ◌∙◌, arith}
+use Rattle.std.proofs.Common.{◌≡◌, ℕ, ◌+◌, ◌/◌, ◌%◌, ◌^◌, ◌<◌, List, [], ◌∷◌, ◌++◌, length, drop, take, get_or, bit_xor, true, false, refl, sym, ap, ◌∙◌, arith}
 use Rattle.std.specs.Prelude.{Some, Ok}
 use Rattle.std.specs.Int.Bits.{xor_assoc, xor_self, xor_zero_l}
 use Rattle.std.proofs.lemmas.Bool.Decides.{nat_tests}
@@ -12,11 +12,11 @@ use Rattle.perc_gcm.proofs.GcmLaws.{ciphertext_injective, length-tag}
 use Rattle.perc_kdf.specs.Derivation.{KeyAndSalt}
 use Rattle.perc_rtp.specs.Header.{Header, IsHeader, spelling}
 use Rattle.perc_rtp.proofs.HeaderLaws.{one_packet}
-use Rattle.perc_window.specs.Index.{IsNearest, nearest}
+use Rattle.perc_window.specs.Index.{IsNearest, is_near, nearest}
 use Rattle.perc_window.specs.Replay.{freshness, greatest, has}
 use Rattle.perc_window.specs.declared.window.Freshness.TheVariants.{Fresh}
-use Rattle.perc_window.proofs.IndexLaws.{fresh_has, nearest_some}
-use Rattle.perc_srtp.specs.Sealed.{iv, salted, sealed, sealed_body}
+use Rattle.perc_window.proofs.IndexLaws.{fresh_has, freshness_above, freshness_first, nearest_first, nearest_is, nearest_some}
+use Rattle.perc_srtp.specs.Sealed.{iv, rtcp_iv, salted, sealed, sealed_body}
 use Rattle.perc_srtp.specs.Streams.{rx_index, tx_index}
 
 -- ---- indices
@@ -47,6 +47,37 @@ tx_once before seq index is = fresh_has before index (tx_fresh before seq index 
 -- and so is one at which a packet is opened.
 pub rx_once : (before : List ℕ) (seq index : ℕ) → rx_index before seq ≡ Ok index → has before index ≡ false
 rx_once before seq index is = fresh_has before index (rx_fresh before seq index is)
+
+-- ---- indices that rise by one
+
+near_next : (h : ℕ) → is_near h (h + 1) ≡ true
+near_next h = grind (arith, nat_tests)
+
+-- The sequence number behind that of the highest index has the next index.
+pub nearest_next : (h : ℕ) → h + 1 < 2 ^ 48 → nearest (Some h) ((h + 1) % 65536) ≡ Some (h + 1)
+nearest_next h fits = nearest_is h ((h + 1) % 65536) (h + 1) refl (near_next h) fits
+
+tx_at : (before : List ℕ) (seq index : ℕ) → nearest (greatest before) seq ≡ Some index → freshness before index ≡ Fresh → tx_index before seq ≡ Ok index
+tx_at before seq index is fresh = rw is (rw fresh refl)
+
+rx_at : (before : List ℕ) (seq index : ℕ) → nearest (greatest before) seq ≡ Some index → freshness before index ≡ Fresh → rx_index before seq ≡ Ok index
+rx_at before seq index is fresh = rw is (rw fresh refl)
+
+nearest_behind : (before : List ℕ) (h : ℕ) → greatest before ≡ Some h → h + 1 < 2 ^ 48 → nearest (greatest before) ((h + 1) % 65536) ≡ Some (h + 1)
+nearest_behind before h is fits = rw is (nearest_next h fits)
+
+-- So a packet with that number is sealed and opened there.
+pub tx_next : (before : List ℕ) (h : ℕ) → greatest before ≡ Some h → h + 1 < 2 ^ 48 → tx_index before ((h + 1) % 65536) ≡ Ok (h + 1)
+tx_next before h is fits =
+    tx_at before ((h + 1) % 65536) (h + 1) (nearest_behind before h is fits) (freshness_above before h (h + 1) is (omega arith))
+
+pub rx_next : (before : List ℕ) (h : ℕ) → greatest before ≡ Some h → h + 1 < 2 ^ 48 → rx_index before ((h + 1) % 65536) ≡ Ok (h + 1)
+rx_next before h is fits =
+    rx_at before ((h + 1) % 65536) (h + 1) (nearest_behind before h is fits) (freshness_above before h (h + 1) is (omega arith))
+
+-- The first packet has the index that its sequence number is.
+pub tx_first : (seq : ℕ) → tx_index [] seq ≡ Ok seq
+tx_first seq = tx_at [] seq seq (nearest_first seq) (freshness_first seq)
 
 -- ---- IVs
 
@@ -95,6 +126,26 @@ iv_injective salt ssrc other index next fits_ssrc fits_other fits_index fits_nex
     sym (place_seq ssrc index) ∙ ap (λ (xs : List ℕ). big_number 2 (drop 10 xs)) same ∙ place_seq other next in (
       sym (place_ssrc ssrc index fits_ssrc) ∙ ap (λ (xs : List ℕ). big_number 4 (drop 2 xs)) same ∙ place_ssrc other next fits_other,
       omega arith,
+    )
+
+-- the same of an RTCP packet
+abbrev rtcp_place : ℕ → ℕ → List ℕ
+rtcp_place ssrc index = 0 ∷ 0 ∷ (big_bytes 4 ssrc ++ 0 ∷ 0 ∷ big_bytes 4 index)
+
+rtcp_place_ssrc : (ssrc index : ℕ) → ssrc < 2 ^ 32 → big_number 4 (drop 2 (rtcp_place ssrc index)) ≡ ssrc
+rtcp_place_ssrc ssrc index fits = big_number-reads_back 4 ssrc (0 ∷ 0 ∷ big_bytes 4 index) fits
+
+rtcp_place_index : (ssrc index : ℕ) → index < 2 ^ 31 → big_number 4 (drop 8 (rtcp_place ssrc index)) ≡ index
+rtcp_place_index ssrc index fits = big_number-reads_back 4 index [] (omega arith)
+
+-- RTCP packets with other SSRCs or other indices have other IVs under a salt.
+pub rtcp_iv_injective : (salt : List ℕ) (ssrc other index next : ℕ) → ssrc < 2 ^ 32 → other < 2 ^ 32 → index < 2 ^ 31 → next < 2 ^ 31 → rtcp_iv salt ssrc index ≡ rtcp_iv salt other next → (ssrc ≡ other) × (index ≡ next)
+unfolding rtcp_iv
+rtcp_iv_injective salt ssrc other index next fits_ssrc fits_other fits_index fits_next is =
+    let same : rtcp_place ssrc index ≡ rtcp_place other next =
+    sym (salted_twice salt (rtcp_place ssrc index) refl) ∙ ap (salted salt) is ∙ salted_twice salt (rtcp_place other next) refl in (
+      sym (rtcp_place_ssrc ssrc index fits_ssrc) ∙ ap (λ (xs : List ℕ). big_number 4 (drop 2 xs)) same ∙ rtcp_place_ssrc other next fits_other,
+      sym (rtcp_place_index ssrc index fits_index) ∙ ap (λ (xs : List ℕ). big_number 4 (drop 8 xs)) same ∙ rtcp_place_index other next fits_next,
     )
 
 -- ---- packets

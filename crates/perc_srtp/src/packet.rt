@@ -1,5 +1,5 @@
 // RTP packets sealed and opened at a given index.
-ghost use Rattle.std.specs.Prelude.{◌≡◌, ℕ, ◌+◌, ◌^◌, ◌<◌, ◌≤◌, ◌↔◌, List, [], ◌++◌, length, take, drop, IfOk, IfErr, IsOk, MatchResult};
+ghost use Rattle.std.specs.Prelude.{◌≡◌, ℕ, ◌+◌, ◌^◌, ◌<◌, ◌≤◌, ◌↔◌, List, [], ◌++◌, length, take, drop, IfOk, IfErr, OnErr, IsOk, MatchResult};
 ghost use Rattle.perc_gcm.specs.Gcm.{Verifies, ciphertext, tag};
 ghost use Rattle.perc_rtp.specs.Header.{Header, IsPacket};
 ghost use Rattle.perc_rtp.specs.Fields.{IsRtp};
@@ -42,6 +42,7 @@ pub fn unseal_at(keys: &Keys, index: u64, packet: &mut [u8]) -> Result<usize, Ta
     ensures opened { (h : Header) (rest : List ℕ) → IsPacket h rest packet.old → MatchResult result
         (λ n. Opens keys.now index h packet.old n packet.new)
         (λ _. IsForged keys.now index h packet.old × (packet.new ≡ packet.old)) }
+    ensures refused { OnErr result (packet.new ≡ packet.old) }
 {
     let head = RtpHead::read(packet).unwrap();
     let iv = iv(&keys.salt, head.ssrc, index);

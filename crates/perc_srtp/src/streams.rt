@@ -1,5 +1,5 @@
 // The two ends of an SRTP stream.
-ghost use Rattle.std.specs.Prelude.{◌≡◌, ℕ, ◌+◌, ◌^◌, ◌<◌, ◌≤◌, ◌⊎◌, List, [], ◌∷◌, ◌++◌, length, take, drop, Ok, Err, IfOk, MatchResult};
+ghost use Rattle.std.specs.Prelude.{◌≡◌, ℕ, ◌+◌, ◌^◌, ◌<◌, ◌≤◌, ◌⊎◌, List, [], ◌∷◌, ◌++◌, length, take, drop, Ok, Err, IfOk, OnErr, MatchResult};
 ghost use Rattle.perc_rtp.specs.Header.{Header, IsPacket};
 ghost use Rattle.perc_window.specs.Replay.{StandsFor, freshness_at};
 ghost use Rattle.perc_srtp.specs.Sealed.{IsForged, Opens, sealed};
@@ -80,6 +80,7 @@ impl TxStream {
             → MatchResult (tx_place before h.seq len (length packet.old))
             (λ index. (result ≡ Ok (len + 16)) × (packet.new ≡ sealed keys.now index h body ++ drop (len + 16) packet.old) × StandsFor self.new.window (index ∷ before))
             (λ fault. (result ≡ Err fault) × (packet.new ≡ packet.old) × (self.new ≡ self.old)) }
+        ensures refused { OnErr result ((packet.new ≡ packet.old) × (self.new ≡ self.old)) }
         ensures ssrc { self.new.ssrc ≡ self.old.ssrc }
     {
         if packet.len().saturating_sub(len) < TAG_LEN {
@@ -156,6 +157,7 @@ impl RxStream {
             (λ fault. (fault ≡ RxFault.Tag) × IsForged keys.now index h packet.old × (packet.new ≡ packet.old) × (self.new ≡ self.old)))
             (λ fault. (result ≡ Err fault) × (packet.new ≡ packet.old) × (self.new ≡ self.old)) }
         ensures len { IfOk result (λ n. n + 16 ≡ length packet.old) }
+        ensures refused { OnErr result ((packet.new ≡ packet.old) × (self.new ≡ self.old)) }
         ensures ssrc { self.new.ssrc ≡ self.old.ssrc }
     {
         let head = RtpHead::read(packet).unwrap();
