@@ -226,6 +226,3 @@ fn open_packet(keys: &Keys, index: u32, packet: &mut [u8]) -> Result<usize, TagM
     unseal(&keys.cipher, &iv, &aad, &mut packet[HEAD..len], &tag)?;
     Ok(len)
 }
-
-#[cfg(test)]
-mod tests;
