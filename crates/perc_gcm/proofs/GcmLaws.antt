@@ -1,15 +1,19 @@
 -- Laws of the mode: the lengths and octets of what it makes, and that a text can be had back.
-use Rattle.std.proofs.Common.{◌≡◌, ℕ, zero, suc, ◌+◌, ◌/◌, ◌%◌, ◌^◌, ◌<◌, ◌≤◌, List, [], ◌∷◌, length, take, drop, get_or, bit_xor, ⊎_elim, refl, sym, ◌∙◌, ap, arith}
-use Rattle.std.specs.Int.{w32, byte_at, bytes_high_first, from_be_bytes, to_be_bytes}
-use Rattle.std.specs.Int.Bits.{xor_self, xor_zero_r, xor_assoc}
-use Rattle.std.proofs.lemmas.Bool.{cases_lt}
-use Rattle.std.proofs.lemmas.List.{get_or-take, get_or_past, ext_get_or, length-append, length-take}
+use Rattle.std.proofs.Common.{◌≡◌, ◌↔◌, ℕ, zero, suc, ◌+◌, ◌-◌, ◌*◌, ◌/◌, ◌%◌, ◌^◌, ◌<◌, ◌≤◌, nat_le, Bool, true, false, IsTrue, if◌then◌else◌, ◌&&◌, Option, None, Some, List, [], ◌∷◌, ◌++◌, length, take, drop, get_or, bit_xor, ⊎_elim, refl, sym, ◌∙◌, ap, arith}
+use Rattle.std.specs.Int.{w32, w64, w128, byte_at, bytes_high_first, from_be_bytes, to_be_bytes}
+use Rattle.std.specs.Int.Bits.{xor_self, xor_zero_l, xor_zero_r, xor_assoc}
+use Rattle.std.proofs.Math.Arith.{mod-mul}
+use Rattle.std.proofs.Math.Nat.{mul_comm, pow-suc}
+use Rattle.std.proofs.lemmas.Bool.{cases_lt, le-leb}
+use Rattle.std.proofs.lemmas.List.{get_or-take, get_or-drop, get_or_past, ext_get_or, length-append, length-take, length-drop, take_at, drop_at, take-append-drop, append_cancel_right}
 use Rattle.std.proofs.lemmas.List.FromFn.{get_or-map-range_with_len, length-map-range_with_len}
-use Rattle.std.proofs.lemmas.Nat.{xor_lt}
-use Rattle.perc_aes.specs.Cipher.{IsBlock, IsKey}
-use Rattle.perc_aes.proofs.CipherLaws.{IsBlock-aes}
-use Rattle.perc_gcm.specs.Gcm.{Verifies, ciphertext, counter_block, inc32, key_stream, tag}
-use Rattle.perc_gcm.proofs.Blocks.{below_append}
+use Rattle.std.proofs.lemmas.Nat.{be_bytes_8, same_from_place, xor_lt, xor_mod}
+use Rattle.std.proofs.lemmas.Slice.Eq.{bytes_eq-Decides}
+use Rattle.perc_aes.specs.Cipher.{IsBlock, IsKey, aes}
+use Rattle.perc_aes.proofs.CipherLaws.{IsBlock-aes, aes_injective}
+use Rattle.perc_gcm.specs.Field.{ghash}
+use Rattle.perc_gcm.specs.Gcm.{Verifies, cipher_part, ciphertext, counter_block, element, hash_key, hashed, inc32, key_stream, sealed_text, tag, tag_part, unsealed_text, verifies}
+use Rattle.perc_gcm.proofs.Blocks.{below_append, element_is_element}
 
 -- ---- texts
 
@@ -127,3 +131,220 @@ tag_verifies key iv aad cipher = refl
 pub tag_is_one : (key iv aad cipher t u : List ℕ) → Verifies key iv aad cipher t → Verifies key iv aad cipher u → t ≡ u
 unfolding Verifies
 tag_is_one key iv aad cipher t u verifies_t verifies_u = verifies_t ∙ sym verifies_u
+
+-- A tag verifies exactly where the test says so.
+pub verifies_decides : (key iv aad cipher t : List ℕ) → IsTrue (verifies key iv aad cipher t) ↔ Verifies key iv aad cipher t
+unfolding verifies Verifies
+verifies_decides key iv aad cipher t = bytes_eq-Decides t (tag key iv aad cipher)
+
+-- ---- sealed texts
+
+-- What is sealed is 16 octets longer than its text,
+pub length-sealed_text : (key iv aad text : List ℕ) → length (sealed_text key iv aad text) ≡ length text + 16
+unfolding sealed_text
+length-sealed_text key iv aad text =
+    omega (arith, length-append (ciphertext key iv text) (tag key iv aad (ciphertext key iv text)), length-ciphertext key iv text, length-tag key iv aad (ciphertext key iv text))
+
+-- and octets.
+pub sealed_octets : (key iv aad text : List ℕ) → IsKey key → length iv ≡ 12 → ((k : ℕ) → get_or iv k 0 < 256) → ((k : ℕ) → get_or text k 0 < 256) → (k : ℕ) → get_or (sealed_text key iv aad text) k 0 < 256
+unfolding sealed_text
+sealed_octets key iv aad text is size iv_octets octets =
+    below_append 256 (ciphertext key iv text) (tag key iv aad (ciphertext key iv text))
+    (ciphertext_octets key iv text is size iv_octets octets) (tag_octets key iv aad (ciphertext key iv text))
+
+-- a cipher text and its tag, as they are made
+pub sealed_as : (key iv aad text cipher t : List ℕ) → cipher ≡ ciphertext key iv text → t ≡ tag key iv aad cipher → cipher ++ t ≡ sealed_text key iv aad text
+unfolding sealed_text
+sealed_as key iv aad text cipher t cipher_is t_is =
+    ap (λ (x : List ℕ). cipher ++ x) t_is ∙ ap (λ (x : List ℕ). x ++ tag key iv aad x) cipher_is
+
+pub cipher_part_at : (cipher t : List ℕ) → length t ≡ 16 → cipher_part (cipher ++ t) ≡ cipher
+unfolding cipher_part
+cipher_part_at cipher t size =
+    take_at cipher t (length (cipher ++ t) - 16) (omega (arith, length-append cipher t))
+
+pub tag_part_at : (cipher t : List ℕ) → length t ≡ 16 → tag_part (cipher ++ t) ≡ t
+unfolding tag_part
+tag_part_at cipher t size =
+    drop_at cipher t (length (cipher ++ t) - 16) (omega (arith, length-append cipher t))
+
+-- what is sealed is its cipher text and its tag
+pub sealed_parts : (sealed : List ℕ) → cipher_part sealed ++ tag_part sealed ≡ sealed
+unfolding cipher_part tag_part
+sealed_parts sealed = take-append-drop (length sealed - 16) sealed
+
+opened_by : (fits right : Bool) (text : List ℕ) → fits ≡ true → right ≡ true → (if fits && right then Some text else None) ≡ Some text
+opened_by true true text p q = refl
+opened_by true false text p q = (cc)
+opened_by false right text p q = (cc)
+
+refused_by : (fits right : Bool) (text : List ℕ) → (right ≡ true → ⊥) → (if fits && right then Some text else None) ≡ None
+refused_by true true text not = absurd (not refl)
+refused_by true false text not = refl
+refused_by false right text not = refl
+
+opened_from : (fits right : Bool) (text u : List ℕ) → (if fits && right then Some text else None) ≡ Some u → (fits ≡ true) × (right ≡ true) × (text ≡ u)
+opened_from true true text u e = (refl, refl, (cc))
+opened_from true false text u e = (cc)
+opened_from false right text u e = (cc)
+
+-- A cipher text with a tag that verifies opens,
+pub unseals : (key iv aad cipher t : List ℕ) → length t ≡ 16 → Verifies key iv aad cipher t → unsealed_text key iv aad (cipher ++ t) ≡ Some (ciphertext key iv cipher)
+unfolding unsealed_text
+unseals key iv aad cipher t size right =
+    let long : 16 ≤ length (cipher ++ t) = omega (arith, length-append cipher t) in
+    rw (cipher_part_at cipher t size, tag_part_at cipher t size)
+    (opened_by (nat_le 16 (length (cipher ++ t))) (verifies key iv aad cipher t) (ciphertext key iv cipher) (le-leb 16 (length (cipher ++ t)) long) ((verifies_decides key iv aad cipher t).1 right))
+
+-- and with another it doesn't.
+pub unseals_not : (key iv aad cipher t : List ℕ) → length t ≡ 16 → (Verifies key iv aad cipher t → ⊥) → unsealed_text key iv aad (cipher ++ t) ≡ None
+unfolding unsealed_text
+unseals_not key iv aad cipher t size wrong =
+    rw (cipher_part_at cipher t size, tag_part_at cipher t size)
+    (refused_by (nat_le 16 (length (cipher ++ t))) (verifies key iv aad cipher t) (ciphertext key iv cipher) (λ right. wrong ((verifies_decides key iv aad cipher t).0 right)))
+
+-- What was sealed opens to its text,
+pub sealed_opens : (key iv aad sealed text : List ℕ) → sealed ≡ sealed_text key iv aad text → unsealed_text key iv aad sealed ≡ Some text
+unfolding sealed_text
+sealed_opens key iv aad sealed text e =
+    ap (λ (x : List ℕ). unsealed_text key iv aad x) e
+    ∙ unseals key iv aad (ciphertext key iv text) (tag key iv aad (ciphertext key iv text)) (length-tag key iv aad (ciphertext key iv text)) (tag_verifies key iv aad (ciphertext key iv text))
+    ∙ ap (λ (x : List ℕ). Some x) (ciphertext_twice key iv text)
+
+-- and what opens was sealed of what it opens to.
+pub opens_as_sealed : (key iv aad sealed text : List ℕ) → unsealed_text key iv aad sealed ≡ Some text → sealed ≡ sealed_text key iv aad text
+unfolding unsealed_text Verifies
+opens_as_sealed key iv aad sealed text e =
+    let parts = opened_from (nat_le 16 (length sealed)) (verifies key iv aad (cipher_part sealed) (tag_part sealed)) (ciphertext key iv (cipher_part sealed)) text e in
+    let right : tag_part sealed ≡ tag key iv aad (cipher_part sealed) = (verifies_decides key iv aad (cipher_part sealed) (tag_part sealed)).0 parts.1 in
+    let back : cipher_part sealed ≡ ciphertext key iv text = sym (ciphertext_twice key iv (cipher_part sealed)) ∙ ap (λ (x : List ℕ). ciphertext key iv x) parts.2 in
+    sym (sealed_parts sealed) ∙ sealed_as key iv aad text (cipher_part sealed) (tag_part sealed) back right
+
+-- What doesn't open was sealed of no text,
+pub none_sealed : (key iv aad sealed : List ℕ) → unsealed_text key iv aad sealed ≡ None → (text : List ℕ) → sealed ≡ sealed_text key iv aad text → ⊥
+none_sealed key iv aad sealed none text e = let some = sealed_opens key iv aad sealed text e in cc
+
+is_none : (o : Option (List ℕ)) → ((text : List ℕ) → o ≡ Some text → ⊥) → o ≡ None
+is_none None not = refl
+is_none (Some text) not = absurd (not text refl)
+
+-- and what was sealed of no text doesn't open.
+pub none_opens : (key iv aad sealed : List ℕ) → ((text : List ℕ) → sealed ≡ sealed_text key iv aad text → ⊥) → unsealed_text key iv aad sealed ≡ None
+none_opens key iv aad sealed not =
+    is_none (unsealed_text key iv aad sealed) (λ text e. not text (opens_as_sealed key iv aad sealed text e))
+
+-- What is sealed has one text.
+pub sealed_injective : (key iv aad a b : List ℕ) → sealed_text key iv aad a ≡ sealed_text key iv aad b → a ≡ b
+sealed_injective key iv aad a b same =
+    let of_a : unsealed_text key iv aad (sealed_text key iv aad a) ≡ Some a = sealed_opens key iv aad (sealed_text key iv aad a) a refl in
+    let of_b : unsealed_text key iv aad (sealed_text key iv aad a) ≡ Some b = sealed_opens key iv aad (sealed_text key iv aad a) b same in
+    cc
+
+-- ---- one IV
+
+byte_is : (k n : ℕ) → byte_at k n ≡ n / 256 ^ k % 256
+byte_is zero n = omega arith
+byte_is (suc k) n = refl
+
+pow_positive : (k : ℕ) → 0 < 256 ^ k
+pow_positive zero = omega arith
+pow_positive (suc k) = omega (arith, pow-suc 256 k, pow_positive k)
+
+one_octet_more : (k n : ℕ) → n % 256 ^ suc k ≡ byte_at k n * 256 ^ k + n % 256 ^ k
+one_octet_more k n =
+    let power : 256 ^ suc k ≡ 256 * 256 ^ k = pow-suc 256 k ∙ mul_comm (256 ^ k) 256 in
+    ap (λ (m : ℕ). n % m) power ∙ mod-mul n {m = 256} {c = 256 ^ k} (omega arith) (pow_positive k)
+    ∙ ap (λ (b : ℕ). b * 256 ^ k + n % 256 ^ k) (sym (byte_is k n))
+
+-- the lowest k octets of a number are the number modulo 256^k
+number_of_octets : (k m n : ℕ) → bytes_high_first k m ≡ bytes_high_first k n → m % 256 ^ k ≡ n % 256 ^ k
+number_of_octets zero m n same = omega arith
+number_of_octets (suc k) m n same =
+    let first : byte_at k m ≡ byte_at k n = ap (λ (xs : List ℕ). get_or xs 0 0) same in
+    let rest = number_of_octets k m n (ap (λ (xs : List ℕ). drop 1 xs) same) in
+    one_octet_more k m ∙ ap (λ (b : ℕ). b * 256 ^ k + m % 256 ^ k) first ∙ ap (λ (x : ℕ). byte_at k n * 256 ^ k + x) rest
+    ∙ sym (one_octet_more k n)
+
+xor_cancel : (g a b : ℕ) → bit_xor g a ≡ bit_xor g b → a ≡ b
+xor_cancel g a b same =
+    sym (xor_zero_l a) ∙ ap (λ (x : ℕ). bit_xor x a) (sym (xor_self g)) ∙ xor_assoc g g a
+    ∙ ap (λ (x : ℕ). bit_xor g x) same
+    ∙ sym (xor_assoc g g b) ∙ ap (λ (x : ℕ). bit_xor x b) (xor_self g) ∙ xor_zero_l b
+
+-- the masks of one hash are equal
+masks_same : (g a b : ℕ) → to_be_bytes w128 (bit_xor g a) ≡ to_be_bytes w128 (bit_xor g b) → a < 2 ^ 128 → b < 2 ^ 128 → a ≡ b
+masks_same g a b same p q =
+    let sums : bit_xor g a % 2 ^ 128 ≡ bit_xor g b % 2 ^ 128 = number_of_octets 16 (bit_xor g a) (bit_xor g b) same in
+    let masks = xor_cancel (g % 2 ^ 128) (a % 2 ^ 128) (b % 2 ^ 128) (sym (xor_mod g a 128) ∙ sums ∙ xor_mod g b 128) in
+    omega arith
+
+halves : (a : List ℕ) → element a ≡ from_be_bytes w64 (take 8 a) * 2 ^ 64 + from_be_bytes w64 (drop 8 a)
+unfolding element
+halves a =
+    omega (
+      arith,
+      get_or-take 8 a 0 0 (omega arith),
+      get_or-take 8 a 1 0 (omega arith),
+      get_or-take 8 a 2 0 (omega arith),
+      get_or-take 8 a 3 0 (omega arith),
+      get_or-take 8 a 4 0 (omega arith),
+      get_or-take 8 a 5 0 (omega arith),
+      get_or-take 8 a 6 0 (omega arith),
+      get_or-take 8 a 7 0 (omega arith),
+      get_or-drop 8 a 0 0,
+      get_or-drop 8 a 1 0,
+      get_or-drop 8 a 2 0,
+      get_or-drop 8 a 3 0,
+      get_or-drop 8 a 4 0,
+      get_or-drop 8 a 5 0,
+      get_or-drop 8 a 6 0,
+      get_or-drop 8 a 7 0,
+    )
+
+word_fits : (a : List ℕ) → ((k : ℕ) → get_or a k 0 < 256) → from_be_bytes w64 a < 2 ^ 64
+word_fits a octets =
+    let h0 = octets 0 in
+    let h1 = octets 1 in
+    let h2 = octets 2 in
+    let h3 = octets 3 in
+    let h4 = octets 4 in
+    let h5 = octets 5 in
+    let h6 = octets 6 in
+    let h7 = octets 7 in
+    omega arith
+
+drop_below : (n : ℕ) (xs : List ℕ) → ((k : ℕ) → get_or xs k 0 < 256) → (k : ℕ) → get_or (drop n xs) k 0 < 256
+drop_below n xs all k = omega (arith, get_or-drop n xs k 0, all (n + k))
+
+word_injective : (a b : List ℕ) → length a ≡ 8 → length b ≡ 8 → ((k : ℕ) → get_or a k 0 < 256) → ((k : ℕ) → get_or b k 0 < 256) → from_be_bytes w64 a ≡ from_be_bytes w64 b → a ≡ b
+word_injective a b size_a size_b octets_a octets_b same =
+    sym (be_bytes_8 a (from_be_bytes w64 a) size_a octets_a refl) ∙ be_bytes_8 b (from_be_bytes w64 a) size_b octets_b same
+
+-- Blocks with one element are one block.
+pub element_injective : (a b : List ℕ) → IsBlock a → IsBlock b → element a ≡ element b → a ≡ b
+element_injective a b block_a block_b same =
+    let size_a = block_a.size in
+    let size_b = block_b.size in
+    let first_a = take_below 8 a block_a.octets in
+    let first_b = take_below 8 b block_b.octets in
+    let last_a = drop_below 8 a block_a.octets in
+    let last_b = drop_below 8 b block_b.octets in
+    let numbers = same_from_place (from_be_bytes w64 (take 8 a)) (from_be_bytes w64 (drop 8 a)) (from_be_bytes w64 (take 8 b)) (from_be_bytes w64 (drop 8 b)) (2 ^ 64)
+    (word_fits (drop 8 a) last_a) (word_fits (drop 8 b) last_b) (sym (halves a) ∙ same ∙ halves b) in
+    let first : take 8 a ≡ take 8 b = word_injective (take 8 a) (take 8 b) (omega (arith, length-take 8 a)) (omega (arith, length-take 8 b)) first_a first_b numbers.0 in
+    let last : drop 8 a ≡ drop 8 b = word_injective (drop 8 a) (drop 8 b) (omega (arith, length-drop 8 a)) (omega (arith, length-drop 8 b)) last_a last_b numbers.1 in
+    sym (take-append-drop 8 a) ∙ ap (λ (x : List ℕ). x ++ drop 8 a) first ∙ ap (λ (x : List ℕ). take 8 b ++ x) last ∙ take-append-drop 8 b
+
+-- A tag over additional data and a cipher text comes from one IV.
+pub iv_is_one : (key iv other aad cipher : List ℕ) → IsKey key → length iv ≡ 12 → length other ≡ 12 → ((k : ℕ) → get_or iv k 0 < 256) → ((k : ℕ) → get_or other k 0 < 256) → tag key iv aad cipher ≡ tag key other aad cipher → iv ≡ other
+unfolding tag counter_block
+iv_is_one key iv other aad cipher is size_iv size_other octets_iv octets_other same =
+    let first_iv = IsBlock-counter_block iv 0 size_iv octets_iv in
+    let first_other = IsBlock-counter_block other 0 size_other octets_other in
+    let mask_iv = IsBlock-aes key (counter_block iv 0) is first_iv in
+    let mask_other = IsBlock-aes key (counter_block other 0) is first_other in
+    let masks = masks_same (ghash (hash_key key) (hashed aad cipher)) (element (aes key (counter_block iv 0))) (element (aes key (counter_block other 0))) same
+    (element_is_element (aes key (counter_block iv 0)) mask_iv.octets) (element_is_element (aes key (counter_block other 0)) mask_other.octets) in
+    let blocks = aes_injective key (counter_block iv 0) (counter_block other 0) is first_iv first_other
+    (element_injective (aes key (counter_block iv 0)) (aes key (counter_block other 0)) mask_iv mask_other masks) in
+    append_cancel_right iv other (0 ∷ 0 ∷ 0 ∷ 1 ∷ []) blocks

@@ -1,8 +1,9 @@
 -- Galois/Counter Mode over the block cipher AES (SP 800-38D sections 6 and 7), with an IV of 96 bits and a tag of 128.
 -- Keys, IVs, texts and tags are lists of octets; a block in the hash is an element of the field.
-use Rattle.std.specs.Prelude.{◌≡◌, ℕ, zero, suc, ◌+◌, ◌*◌, ◌/◌, ◌%◌, ◌^◌, List, [], ◌∷◌, ◌++◌, length, map, take, drop, replicate, slice_index, bit_xor}
+use Rattle.std.specs.Prelude.{◌≡◌, ℕ, zero, suc, ◌+◌, ◌-◌, ◌*◌, ◌/◌, ◌%◌, ◌^◌, Bool, if◌then◌else◌, ◌&&◌, nat_le, Option, None, Some, List, [], ◌∷◌, ◌++◌, length, map, take, drop, replicate, slice_index, bit_xor}
 use Rattle.std.specs.Int.{w32, w128, div_ceil, from_be_bytes, to_be_bytes}
 use Rattle.std.specs.List.{range_with_len}
+use Rattle.std.specs.Str.{bytes_eq}
 use Rattle.perc_aes.specs.Cipher.{aes}
 use Rattle.perc_gcm.specs.Field.{add, ghash}
 
@@ -66,3 +67,26 @@ tag key iv aad cipher =
 -- The tag is right for the additional data and the cipher text.
 unfoldable pub Verifies : List ℕ → List ℕ → List ℕ → List ℕ → List ℕ → Type 0
 Verifies key iv aad cipher of = of ≡ tag key iv aad cipher
+
+-- the same as a test
+unfoldable pub verifies : List ℕ → List ℕ → List ℕ → List ℕ → List ℕ → Bool
+verifies key iv aad cipher of = bytes_eq of (tag key iv aad cipher)
+
+-- ---- sealed texts: the cipher text, and the tag behind it
+
+-- a text sealed
+unfoldable pub sealed_text : List ℕ → List ℕ → List ℕ → List ℕ → List ℕ
+sealed_text key iv aad text = ciphertext key iv text ++ tag key iv aad (ciphertext key iv text)
+
+-- the cipher text of what is sealed: what stands before its last 16 octets
+unfoldable pub cipher_part : List ℕ → List ℕ
+cipher_part sealed = take (length sealed - 16) sealed
+
+-- the tag of what is sealed: its last 16 octets
+unfoldable pub tag_part : List ℕ → List ℕ
+tag_part sealed = drop (length sealed - 16) sealed
+
+-- the text of what is sealed; none where there is no tag, or a wrong one
+unfoldable pub unsealed_text : List ℕ → List ℕ → List ℕ → List ℕ → Option (List ℕ)
+unsealed_text key iv aad sealed =
+    if nat_le 16 (length sealed) && verifies key iv aad (cipher_part sealed) (tag_part sealed) then Some (ciphertext key iv (cipher_part sealed)) else None

@@ -1,5 +1,6 @@
 // GHASH (SP 800-38D section 6.4) over lists of octets, and what it is keyed by.
 ghost use Rattle.std.specs.Prelude.{◌≡◌, ℕ, ◌≤◌, length};
+ghost use Rattle.perc_aes.specs.Cipher.{IsKey};
 ghost use Rattle.perc_gcm.specs.Gcm.{blocks, element, hash_key};
 ghost use Rattle.perc_gcm.specs.Running.{running};
 
@@ -31,7 +32,8 @@ pub(crate) fn hash_octets(hash_key: u128, hash: u128, octets: &[u8]) -> u128
 
 // The hash key: the cipher of the zero block.
 pub(crate) fn hash_key(key: &AesKey) -> u128
-    ensures { result ≡ hash_key key.now }
+    ensures value { result ≡ hash_key key.now }
+    ensures key { IsKey key.now }
 {
     let mut block = [0; 16];
     key.encrypt_block(&mut block);

@@ -1,8 +1,9 @@
 //! Galois/Counter Mode with AES (NIST SP 800-38D), for an IV of 96 bits and a tag of 128.
 #![tactic(auto)]
 
-ghost use Rattle.std.specs.Prelude.{◌≡◌, ◌≤◌, ◌↔◌, length, IfOk, IfErr, IsOk, IsTrue};
-ghost use Rattle.perc_gcm.specs.Gcm.{Verifies, ciphertext, tag};
+ghost use Rattle.std.specs.Prelude.{◌≡◌, ◌≤◌, ◌↔◌, ◌++◌, None, Some, length, IfOk, IfErr, IsOk, IsTrue, MatchResult};
+ghost use Rattle.perc_aes.specs.Cipher.{IsKey};
+ghost use Rattle.perc_gcm.specs.Gcm.{Verifies, ciphertext, sealed_text, tag, unsealed_text};
 
 mod counter;
 mod field;
@@ -27,6 +28,8 @@ pub fn seal(key: &AesKey, iv: &[u8; 12], aad: &[u8], text: &mut [u8]) -> [u8; 16
     ensures text { text.new ≡ ciphertext key.now iv.now text.old }
     ensures tag { result ≡ tag key.now iv.now aad.now text.new }
     ensures verifies { Verifies key.now iv.now aad.now text.new result }
+    ensures sealed { text.new ++ result ≡ sealed_text key.now iv.now aad.now text.old }
+    ensures key { IsKey key.now }
 {
     add_key_stream(key, iv, text);
     tag_of(key, iv, aad, text)
@@ -48,6 +51,8 @@ pub fn unseal(
     ensures opened { IfOk result (λ _. ciphertext key.now iv.now text.new ≡ text.old) }
     ensures text { IfOk result (λ _. text.new ≡ ciphertext key.now iv.now text.old) }
     ensures refused { IfErr result (λ _. text.new ≡ text.old) }
+    ensures answer { MatchResult result (λ _. unsealed_text key.now iv.now aad.now (text.old ++ tag.now) ≡ Some text.new) (λ _. unsealed_text key.now iv.now aad.now (text.old ++ tag.now) ≡ None) }
+    ensures key { IsKey key.now }
 {
     if !are_same(tag, &tag_of(key, iv, aad, text)) {
         return Err(TagMismatch);
@@ -60,7 +65,8 @@ pub fn unseal(
 fn tag_of(key: &AesKey, iv: &[u8; 12], aad: &[u8], cipher: &[u8]) -> [u8; 16]
     requires aad_length { length aad.now ≤ 65536 }
     requires cipher_length { length cipher.now ≤ 65536 }
-    ensures { result ≡ tag key.now iv.now aad.now cipher.now }
+    ensures value { result ≡ tag key.now iv.now aad.now cipher.now }
+    ensures key { IsKey key.now }
 {
     let hash_key = hash_key(key);
     let lengths = (8 * aad.len() as u128) << 64 | 8 * cipher.len() as u128;

@@ -1,5 +1,5 @@
 mod Sealing
-mod Streaming
+pub mod Streaming
 pub mod PacketLaws
+pub mod RtcpLaws
 mod RtcpSealing
-mod Behind

@@ -1,13 +1,9 @@
 -- The index in the word at the end of a sealed RTCP packet.
-use Rattle.std.specs.Prelude.{ℕ, ◌-◌, ◌^◌, not, ◌==◌, nat_lt, if◌then◌else◌, List, length, drop, Result, Ok, Err}
+use Rattle.std.specs.Prelude.{ℕ, ◌-◌, ◌^◌, not, ◌==◌, nat_lt, if◌then◌else◌, List, length, Result, Ok, Err}
 use Rattle.perc_rtp.specs.Header.{version}
 use Rattle.perc_srtp.specs.Streams.{end_word}
 use Rattle.perc_srtp.specs.declared.rtcp.RtcpFault.{RtcpFault}
 use Rattle.perc_srtp.specs.declared.rtcp.RtcpFault.TheVariants.{Short, Version, Clear}
-
--- the octets of the word
-abbrev pub index_word : List ℕ → List ℕ
-index_word packet = drop (length packet - 4) packet
 
 -- the index, whatever was accepted before
 abbrev pub rtcp_index : List ℕ → Result ℕ RtcpFault

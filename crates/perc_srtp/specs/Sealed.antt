@@ -1,10 +1,14 @@
 -- SRTP packets sealed with AES-GCM (RFC 7714 sections 8 and 9), under the keys of a session. An index is ROC * 65536 + SEQ.
-use Rattle.std.specs.Prelude.{◌≡◌, ℕ, ◌+◌, ◌/◌, ◌%◌, ◌^◌, List, ◌∷◌, ◌++◌, length, map, bit_xor, slice_index, take, drop}
+use Rattle.std.specs.Prelude.{◌≡◌, ℕ, ◌+◌, ◌-◌, ◌/◌, ◌%◌, ◌^◌, ◌&&◌, nat_le, if◌then◌else◌, Option, None, List, ◌∷◌, ◌++◌, length, map, bit_xor, slice_index, take, drop}
 use Rattle.std.specs.List.{range_with_len}
+use Rattle.std.specs.Option.{option_map}
+use Rattle.std.specs.Str.{bytes_eq}
 use Rattle.byteorder.specs.Endian.{big_bytes, big_number}
-use Rattle.perc_gcm.specs.Gcm.{ciphertext, tag}
+use Rattle.perc_gcm.specs.Gcm.{sealed_text, unsealed_text}
 use Rattle.perc_kdf.specs.Derivation.{KeyAndSalt}
 use Rattle.perc_rtp.specs.Header.{Header, spelling}
+
+-- ---- IVs
 
 -- 12 octets, each with the octet of the salt in its place added (RFC 7714 section 8.1)
 abbrev pub salted : List ℕ → List ℕ → List ℕ
@@ -19,11 +23,9 @@ iv salt ssrc index =
 unfoldable pub rtcp_iv : List ℕ → ℕ → ℕ → List ℕ
 rtcp_iv salt ssrc index = salted salt (0 ∷ 0 ∷ (big_bytes 4 ssrc ++ 0 ∷ 0 ∷ big_bytes 4 index))
 
--- a text sealed under an IV, with additional data: the cipher text and the tag
-abbrev pub sealed_text : List ℕ → List ℕ → List ℕ → List ℕ → List ℕ
-sealed_text key iv aad text = ciphertext key iv text ++ tag key iv aad (ciphertext key iv text)
+-- ---- RTP
 
--- what stands behind the header of a sealed packet; the whole header is additional data
+-- what stands behind the header of a sealed packet: the body's cipher text and the tag; the whole header is additional data
 unfoldable pub sealed_body : KeyAndSalt → ℕ → Header → List ℕ → List ℕ
 sealed_body keys index h body = sealed_text keys.key (iv keys.salt h.ssrc index) (spelling h) body
 
@@ -31,35 +33,47 @@ sealed_body keys index h body = sealed_text keys.key (iv keys.salt h.ssrc index)
 abbrev pub sealed : KeyAndSalt → ℕ → Header → List ℕ → List ℕ
 sealed keys index h body = spelling h ++ sealed_body keys index h body
 
+-- the body of a packet with this header, from what stands behind the header; none where there is no tag, or a wrong one
+unfoldable pub unsealed_body : KeyAndSalt → ℕ → Header → List ℕ → Option (List ℕ)
+unsealed_body keys index h rest = unsealed_text keys.key (iv keys.salt h.ssrc index) (spelling h) rest
+
+-- ---- RTCP
+
 -- the word behind a sealed RTCP packet: the bit E, which says that it is encrypted, and the index of 31 bits
 abbrev pub rtcp_word : ℕ → List ℕ
 rtcp_word index = big_bytes 4 (2 ^ 31 + index)
+
+-- the last four octets of a packet, where the word stands
+abbrev pub index_word : List ℕ → List ℕ
+index_word packet = drop (length packet - 4) packet
 
 -- the SSRC of an RTCP packet
 abbrev pub rtcp_ssrc : List ℕ → ℕ
 rtcp_ssrc packet = big_number 4 (drop 4 packet)
 
--- an RTCP packet sealed at an index: its first 8 octets, which with the word are additional data; the rest sealed; and
--- the word
+-- what is additional data: the first 8 octets, and the word
+abbrev pub rtcp_aad : ℕ → List ℕ → List ℕ
+rtcp_aad index packet = take 8 packet ++ rtcp_word index
+
+-- an RTCP packet sealed at an index: its first 8 octets, the rest sealed, and the word
 unfoldable pub sealed_rtcp : KeyAndSalt → ℕ → List ℕ → List ℕ
 sealed_rtcp keys index packet =
-    take 8 packet ++ sealed_text keys.key (rtcp_iv keys.salt (rtcp_ssrc packet) index) (take 8 packet ++ rtcp_word index) (drop 8 packet)
+    take 8 packet ++ sealed_text keys.key (rtcp_iv keys.salt (rtcp_ssrc packet) index) (rtcp_aad index packet) (drop 8 packet)
     ++ rtcp_word index
 
--- The packet with this header opens at the index, to so many octets: it was sealed there, and the header and the body stand
--- at the front.
-abbrev pub Opens : KeyAndSalt → ℕ → Header → List ℕ → ℕ → List ℕ → Type 0
-Opens keys index h packet n opened =
-    (body : List ℕ) × (packet ≡ sealed keys index h body) × (n ≡ length (spelling h ++ body)) × (take n opened ≡ spelling h ++ body)
+-- what stands between the first 8 octets and the word
+abbrev pub sealed_part : List ℕ → List ℕ
+sealed_part packet = take (length packet - 12) (drop 8 packet)
 
--- No body was sealed to the packet at the index.
-abbrev pub IsForged : KeyAndSalt → ℕ → Header → List ℕ → Type 0
-IsForged keys index h packet = (body : List ℕ) → packet ≡ sealed keys index h body → ⊥
+-- the packet that was sealed at an index; none where it is too short for a tag and the word, has another word, or a wrong tag
+unfoldable pub unsealed_rtcp : KeyAndSalt → ℕ → List ℕ → Option (List ℕ)
+unsealed_rtcp keys index packet =
+    if nat_le 28 (length packet) && bytes_eq (index_word packet) (rtcp_word index)
+    then option_map (λ text. take 8 packet ++ text) (unsealed_text keys.key (rtcp_iv keys.salt (rtcp_ssrc packet) index) (rtcp_aad index packet) (sealed_part packet))
+    else None
 
--- The same of an RTCP packet.
-abbrev pub OpensRtcp : KeyAndSalt → ℕ → List ℕ → ℕ → List ℕ → Type 0
-OpensRtcp keys index packet n opened =
-    (plain : List ℕ) × (packet ≡ sealed_rtcp keys index plain) × (n ≡ length plain) × (take n opened ≡ plain)
+-- ---- what stands in a buffer
 
-abbrev pub IsForgedRtcp : KeyAndSalt → ℕ → List ℕ → Type 0
-IsForgedRtcp keys index packet = (plain : List ℕ) → packet ≡ sealed_rtcp keys index plain → ⊥
+-- The octets begin with these.
+abbrev pub BeginsWith : List ℕ → List ℕ → Type 0
+BeginsWith front octets = take (length front) octets ≡ front

@@ -1,12 +1,15 @@
 -- The two ends of an SRTP stream and of an SRTCP stream: which index a packet takes, and why none is sealed or opened
 -- (RFC 3711 sections 3.3, 3.4). The indices sealed or accepted before are given by a list.
-use Rattle.std.specs.Prelude.{ℕ, ◌+◌, ◌-◌, ◌^◌, not, ◌==◌, nat_lt, if◌then◌else◌, List, length, drop, Option, Some, None, Result, Ok, Err}
+use Rattle.std.specs.Prelude.{ℕ, ◌+◌, ◌-◌, ◌^◌, not, ◌==◌, nat_lt, if◌then◌else◌, List, length, Option, Some, None, Result, Ok, Err}
+use Rattle.std.specs.Option.{ok_or, option_map}
 use Rattle.byteorder.specs.Endian.{big_number}
-use Rattle.perc_rtp.specs.Header.{version}
+use Rattle.perc_kdf.specs.Derivation.{KeyAndSalt}
+use Rattle.perc_rtp.specs.Header.{Header, version}
 use Rattle.perc_window.specs.Index.{nearest}
 use Rattle.perc_window.specs.Replay.{greatest, freshness}
 use Rattle.perc_window.specs.declared.window.Freshness.{Freshness}
 use Rattle.perc_window.specs.declared.window.Freshness.TheVariants.{Fresh, Repeated as RepeatedIndex, TooOld as OldIndex}
+use Rattle.perc_srtp.specs.Sealed.{index_word, unsealed_body, unsealed_rtcp}
 use Rattle.perc_srtp.specs.declared.streams.TxFault.{TxFault}
 use Rattle.perc_srtp.specs.declared.streams.TxFault.TheVariants as tx
 use Rattle.perc_srtp.specs.declared.streams.RxFault.{RxFault}
@@ -50,11 +53,23 @@ rx_index before seq = at (nearest (greatest before) seq) where
 abbrev pub rx_place : List ℕ → ℕ → ℕ → Result ℕ RxFault
 rx_place before seq body = if nat_lt body 16 then Err rx.Short else rx_index before seq
 
+-- what opens at an index, with the index
+abbrev pub opened_at : {F : Type 0} → F → ℕ → Option (List ℕ) → Result (ℕ × List ℕ) F
+opened_at wrong_tag index found = ok_or (option_map (λ octets. (index, octets)) found) wrong_tag
+
+-- Behind these accepted indices, what a packet with this header and this rest is opened to: its index and its body, or the
+-- first refusal.
+unfoldable pub rx_opened : KeyAndSalt → List ℕ → Header → List ℕ → Result (ℕ × List ℕ) RxFault
+rx_opened keys before h rest = at (rx_place before h.seq (length rest)) where
+  at : Result ℕ RxFault → Result (ℕ × List ℕ) RxFault
+  at (Err fault) = Err fault
+  at (Ok index) = opened_at rx.Tag index (unsealed_body keys index h rest)
+
 -- ---- RTCP
 
 -- the word at the end of a sealed RTCP packet
 abbrev pub end_word : List ℕ → ℕ
-end_word packet = big_number 4 (drop (length packet - 4) packet)
+end_word packet = big_number 4 (index_word packet)
 
 -- the index that a sealed RTCP packet may be opened at behind these, or why it isn't: it has 8 octets, a tag of 16 and a
 -- word of 4; its version is 2; and the bit E is set
@@ -67,3 +82,10 @@ rtcp_place before packet =
       taken index Fresh = Ok index
       taken index RepeatedIndex = Err rtcp.Repeated
       taken index OldIndex = Err rtcp.TooOld
+
+-- the same of a sealed RTCP packet: its index and the packet that was sealed, or the first refusal
+unfoldable pub rtcp_opened : KeyAndSalt → List ℕ → List ℕ → Result (ℕ × List ℕ) RtcpFault
+rtcp_opened keys before packet = at (rtcp_place before packet) where
+  at : Result ℕ RtcpFault → Result (ℕ × List ℕ) RtcpFault
+  at (Err fault) = Err fault
+  at (Ok index) = opened_at rtcp.Tag index (unsealed_rtcp keys index packet)

@@ -6,9 +6,9 @@ mod keys;
 pub mod laws;
 mod packet;
 mod rtcp;
-#[cfg(test)]
-mod rtp_tests;
 mod streams;
+#[cfg(test)]
+mod tests;
 
 pub use keys::{Keys, iv, rtcp_iv};
 pub use packet::{seal_at, seal_behind, unseal_at, unseal_behind};

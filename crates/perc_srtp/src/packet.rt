@@ -1,9 +1,9 @@
 // RTP packets sealed and opened at a given index.
-ghost use Rattle.std.specs.Prelude.{◌≡◌, ℕ, ◌+◌, ◌^◌, ◌<◌, ◌≤◌, ◌↔◌, List, [], ◌++◌, length, take, drop, IfOk, IfErr, IsOk, MatchResult};
-ghost use Rattle.perc_gcm.specs.Gcm.{Verifies, ciphertext, tag};
-ghost use Rattle.perc_rtp.specs.Header.{Header, IsPacket};
+ghost use Rattle.std.specs.Prelude.{◌≡◌, ℕ, ◌+◌, ◌^◌, ◌<◌, ◌≤◌, List, [], ◌++◌, length, take, drop, None, Some, Ok, IfOk, OnErr, IsErr, IsOk, MatchOption, MatchResult};
+ghost use Rattle.perc_gcm.specs.Gcm.{sealed_text, unsealed_text};
+ghost use Rattle.perc_rtp.specs.Header.{Header, IsPacket, spelling};
 ghost use Rattle.perc_rtp.specs.Fields.{IsRtp};
-ghost use Rattle.perc_srtp.specs.Sealed.{IsForged, Opens, sealed, sealed_body};
+ghost use Rattle.perc_srtp.specs.Sealed.{BeginsWith, sealed, sealed_body, unsealed_body};
 
 use super::{Keys, iv};
 use perc_gcm::{TagMismatch, seal, unseal};
@@ -39,9 +39,10 @@ pub fn unseal_at(keys: &Keys, index: u64, packet: &mut [u8]) -> Result<usize, Ta
     requires reads { IsRtp packet.old }
     requires tag { (h : Header) (rest : List ℕ) → IsPacket h rest packet.old → 16 ≤ length rest }
     ensures len { IfOk result (λ n. n + 16 ≡ length packet.old) }
-    ensures opened { (h : Header) (rest : List ℕ) → IsPacket h rest packet.old → MatchResult result
-        (λ n. Opens keys.now index h packet.old n packet.new)
-        (λ _. IsForged keys.now index h packet.old × (packet.new ≡ packet.old)) }
+    ensures answer { (h : Header) (rest : List ℕ) → IsPacket h rest packet.old → MatchOption (unsealed_body keys.now index h rest)
+        (IsErr result × (packet.new ≡ packet.old))
+        (λ body. (result ≡ Ok (length (spelling h ++ body))) × BeginsWith (spelling h ++ body) packet.new) }
+    ensures refused { OnErr result (packet.new ≡ packet.old) }
 {
     let head = RtpHead::read(packet).unwrap();
     let iv = iv(&keys.salt, head.ssrc, index);
@@ -55,8 +56,7 @@ pub fn unseal_at(keys: &Keys, index: u64, packet: &mut [u8]) -> Result<usize, Ta
 fn seal_body(keys: &Keys, iv: &[u8; 12], packet: &mut [u8], cut: usize) -> [u8; 16]
     requires few { length packet.old ≤ 65536 }
     requires cut { cut ≤ length packet.old }
-    ensures text { packet.new ≡ take cut packet.old ++ ciphertext keys.now.key iv.now (drop cut packet.old) }
-    ensures tag { result ≡ tag keys.now.key iv.now (take cut packet.old) (ciphertext keys.now.key iv.now (drop cut packet.old)) }
+    ensures { packet.new ++ result ≡ take cut packet.old ++ sealed_text keys.now.key iv.now (take cut packet.old) (drop cut packet.old) }
 {
     let (header, text) = packet.split_at_mut(cut);
     seal(&keys.cipher, iv, header, text)
@@ -72,16 +72,16 @@ fn unseal_body(
 ) -> Result<(), TagMismatch>
     requires few { length packet.old ≤ 65536 }
     requires cut { cut ≤ length packet.old }
-    ensures verdict { IsOk result ↔ Verifies keys.now.key iv.now (take cut packet.old) (drop cut packet.old) tag.now }
-    ensures text { IfOk result (λ _. packet.new ≡ take cut packet.old ++ ciphertext keys.now.key iv.now (drop cut packet.old)) }
-    ensures refused { IfErr result (λ _. packet.new ≡ packet.old) }
+    ensures opened { IfOk result (λ _. (text : List ℕ) × (unsealed_text keys.now.key iv.now (take cut packet.old) (drop cut packet.old ++ tag.now) ≡ Some text) × (packet.new ≡ take cut packet.old ++ text)) }
+    ensures forged { OnErr result (unsealed_text keys.now.key iv.now (take cut packet.old) (drop cut packet.old ++ tag.now) ≡ None) }
+    ensures refused { OnErr result (packet.new ≡ packet.old) }
 {
     let (header, text) = packet.split_at_mut(cut);
     unseal(&keys.cipher, iv, header, text, tag)
 }
 
 // The tag in these octets.
-fn tag_in(octets: &[u8]) -> [u8; 16]
+pub(crate) fn tag_in(octets: &[u8]) -> [u8; 16]
     requires { length octets.now ≡ 16 }
     ensures { result ≡ octets.now }
 {
@@ -120,6 +120,9 @@ pub fn unseal_behind(
     requires few { (length header.now ≤ 65536) × (length body.old ≤ 65536) }
     requires index { index < 2 ^ 48 }
     requires reads { (h : Header) × IsPacket h [] header.now }
+    ensures answer { (h : Header) → IsPacket h [] header.now → MatchOption (unsealed_body keys.now index h (body.old ++ tag.now))
+        (IsErr result × (body.new ≡ body.old))
+        (λ plain. IsOk result × (body.new ≡ plain)) }
     ensures opened { (h : Header) → IsPacket h [] header.now → MatchResult result
         (λ _. body.old ++ tag.now ≡ sealed_body keys.now index h body.new)
         (λ _. ((plain : List ℕ) → body.old ++ tag.now ≡ sealed_body keys.now index h plain → ⊥) × (body.new ≡ body.old)) }

@@ -1,12 +1,13 @@
 // The two ends of an SRTCP stream.
-ghost use Rattle.std.specs.Prelude.{◌≡◌, ℕ, ◌+◌, ◌^◌, ◌<◌, ◌≤◌, ◌↔◌, List, [], ◌∷◌, ◌++◌, length, take, drop, Err, IfOk, OnErr, IsOk, MatchResult};
+ghost use Rattle.std.specs.Prelude.{◌≡◌, ℕ, ◌+◌, ◌^◌, ◌<◌, ◌≤◌, ◌↔◌, List, [], ◌∷◌, ◌++◌, length, take, drop, None, Some, Ok, Err, IfOk, OnErr, IsOk, MatchResult};
 ghost use Rattle.byteorder.specs.Endian.{big_bytes};
 ghost use Rattle.perc_rtp.specs.Carried.{rtcp_head};
 ghost use Rattle.perc_window.specs.Replay.{StandsFor};
-ghost use Rattle.perc_srtp.specs.Rtcp.{index_word, rtcp_index};
-ghost use Rattle.perc_srtp.specs.Sealed.{IsForgedRtcp, OpensRtcp, rtcp_word, sealed_rtcp};
-ghost use Rattle.perc_srtp.specs.Streams.{rtcp_place};
+ghost use Rattle.perc_srtp.specs.Rtcp.{rtcp_index};
+ghost use Rattle.perc_srtp.specs.Sealed.{BeginsWith, index_word, rtcp_word, sealed_rtcp, unsealed_rtcp};
+ghost use Rattle.perc_srtp.specs.Streams.{rtcp_opened};
 
+use super::packet::{TAG_LEN, tag_in};
 use super::{Keys, rtcp_iv};
 use byteorder::{BigEndian, ByteOrder};
 use perc_gcm::{TagMismatch, seal, unseal};
@@ -15,9 +16,6 @@ use std::marker::Model;
 
 /// How many octets the head has, which isn't encrypted.
 const HEAD: usize = 8;
-
-/// How many octets the tag has.
-const TAG: usize = 16;
 
 /// How many octets follow the text: the tag, and the word of 4.
 const END: usize = 20;
@@ -127,13 +125,12 @@ impl RtcpRx {
 
     /// Opens a sealed RTCP packet of at most 65536 octets at the index in its word (RFC 7714 section 9), accepts the index, and
     /// answers how many octets the packet then has. After a refusal packet and stream are as they were.
+    #[tactic(auto, unfolding(crate::specs::Streams::rtcp_opened))]
     pub fn unseal(&mut self, keys: &Keys, packet: &mut [u8]) -> Result<usize, RtcpFault>
         requires few { length packet.old ≤ 65536 }
         ensures answer { (before : List ℕ) → StandsFor self.old before
-            → MatchResult (rtcp_place before packet.old)
-            (λ index. MatchResult result
-            (λ n. OpensRtcp keys.now index packet.old n packet.new × StandsFor self.new (index ∷ before))
-            (λ fault. (fault ≡ RtcpFault.Tag) × IsForgedRtcp keys.now index packet.old × (packet.new ≡ packet.old) × (self.new ≡ self.old)))
+            → MatchResult (rtcp_opened keys.now before packet.old)
+            (λ opened. (result ≡ Ok (length opened.1)) × BeginsWith opened.1 packet.new × StandsFor self.new (opened.0 ∷ before))
             (λ fault. (result ≡ Err fault) × (packet.new ≡ packet.old) × (self.new ≡ self.old)) }
         ensures len { IfOk result (λ n. n + 20 ≡ length packet.old) }
         ensures refused { OnErr result ((packet.new ≡ packet.old) × (self.new ≡ self.old)) }
@@ -168,8 +165,8 @@ fn write_end(tag: &[u8; 16], word: u32, out: &mut [u8])
     requires { 20 ≤ length out.old }
     ensures { out.new ≡ tag.now ++ big_bytes 4 word ++ drop 20 out.old }
 {
-    out[..TAG].copy_from_slice(tag);
-    BigEndian::write_u32(&mut out[TAG..], word);
+    out[..TAG_LEN].copy_from_slice(tag);
+    BigEndian::write_u32(&mut out[TAG_LEN..], word);
 }
 
 // Seals the packet in the first `len` octets at an index.
@@ -213,19 +210,15 @@ fn open_packet(keys: &Keys, index: u32, packet: &mut [u8]) -> Result<usize, TagM
     requires least { 28 ≤ length packet.old }
     requires index { index < 2 ^ 31 }
     requires word { rtcp_word index ≡ index_word packet.old }
-    ensures opened { IfOk result (λ n. OpensRtcp keys.now index packet.old n packet.new) }
-    ensures forged { OnErr result (IsForgedRtcp keys.now index packet.old) }
-    ensures kept { OnErr result (packet.new ≡ packet.old) }
+    ensures opened { IfOk result (λ n. (plain : List ℕ) × (unsealed_rtcp keys.now index packet.old ≡ Some plain) × (n ≡ length plain) × BeginsWith plain packet.new) }
+    ensures forged { OnErr result (unsealed_rtcp keys.now index packet.old ≡ None) }
+    ensures refused { OnErr result (packet.new ≡ packet.old) }
     ensures len { IfOk result (λ n. n + 20 ≡ length packet.old) }
 {
     let len = packet.len() - END;
     let iv = rtcp_iv(&keys.salt, BigEndian::read_u32(&packet[4..]), index);
     let aad = aad_of(packet, ENCRYPTED + index);
-    let mut tag = [0; 16];
-    tag.copy_from_slice(&packet[len..len + TAG]);
+    let tag = tag_in(&packet[len..len + TAG_LEN]);
     unseal(&keys.cipher, &iv, &aad, &mut packet[HEAD..len], &tag)?;
     Ok(len)
 }
-
-#[cfg(test)]
-mod tests;

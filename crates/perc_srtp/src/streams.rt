@@ -1,9 +1,9 @@
 // The two ends of an SRTP stream.
-ghost use Rattle.std.specs.Prelude.{◌≡◌, ℕ, ◌+◌, ◌^◌, ◌<◌, ◌≤◌, ◌⊎◌, List, [], ◌∷◌, ◌++◌, length, take, drop, Ok, Err, IfOk, MatchResult};
-ghost use Rattle.perc_rtp.specs.Header.{Header, IsPacket};
+ghost use Rattle.std.specs.Prelude.{◌≡◌, ℕ, ◌+◌, ◌^◌, ◌<◌, ◌≤◌, ◌⊎◌, List, [], ◌∷◌, ◌++◌, length, take, drop, Ok, Err, IfOk, OnErr, MatchResult};
+ghost use Rattle.perc_rtp.specs.Header.{Header, IsPacket, spelling};
 ghost use Rattle.perc_window.specs.Replay.{StandsFor, freshness_at};
-ghost use Rattle.perc_srtp.specs.Sealed.{IsForged, Opens, sealed};
-ghost use Rattle.perc_srtp.specs.Streams.{rx_index, rx_place, tx_index, tx_place};
+ghost use Rattle.perc_srtp.specs.Sealed.{BeginsWith, sealed};
+ghost use Rattle.perc_srtp.specs.Streams.{rx_index, rx_opened, tx_index, tx_place};
 
 use super::packet::TAG_LEN;
 use super::{Keys, seal_at, unseal_at};
@@ -80,6 +80,7 @@ impl TxStream {
             → MatchResult (tx_place before h.seq len (length packet.old))
             (λ index. (result ≡ Ok (len + 16)) × (packet.new ≡ sealed keys.now index h body ++ drop (len + 16) packet.old) × StandsFor self.new.window (index ∷ before))
             (λ fault. (result ≡ Err fault) × (packet.new ≡ packet.old) × (self.new ≡ self.old)) }
+        ensures refused { OnErr result ((packet.new ≡ packet.old) × (self.new ≡ self.old)) }
         ensures ssrc { self.new.ssrc ≡ self.old.ssrc }
     {
         if packet.len().saturating_sub(len) < TAG_LEN {
@@ -150,12 +151,11 @@ impl RxStream {
         requires few { length packet.old ≤ 65536 }
         requires reads { (h : Header) × (rest : List ℕ) × IsPacket h rest packet.old × (h.ssrc ≡ self.old.ssrc) }
         ensures answer { (before : List ℕ) (h : Header) (rest : List ℕ) → StandsFor self.old.window before → IsPacket h rest packet.old
-            → MatchResult (rx_place before h.seq (length rest))
-            (λ index. MatchResult result
-            (λ n. Opens keys.now index h packet.old n packet.new × StandsFor self.new.window (index ∷ before))
-            (λ fault. (fault ≡ RxFault.Tag) × IsForged keys.now index h packet.old × (packet.new ≡ packet.old) × (self.new ≡ self.old)))
+            → MatchResult (rx_opened keys.now before h rest)
+            (λ opened. (result ≡ Ok (length (spelling h ++ opened.1))) × BeginsWith (spelling h ++ opened.1) packet.new × StandsFor self.new.window (opened.0 ∷ before))
             (λ fault. (result ≡ Err fault) × (packet.new ≡ packet.old) × (self.new ≡ self.old)) }
         ensures len { IfOk result (λ n. n + 16 ≡ length packet.old) }
+        ensures refused { OnErr result ((packet.new ≡ packet.old) × (self.new ≡ self.old)) }
         ensures ssrc { self.new.ssrc ≡ self.old.ssrc }
     {
         let head = RtpHead::read(packet).unwrap();

@@ -1,7 +1,8 @@
 ghost use Rattle.std.specs.Prelude.{◌≤◌, length, IfOk};
 
-use super::*;
-use perc_kdf::{Kind, Master};
+use super::{keys_of, octets, size};
+use crate::{Keys, RtcpFault, RtcpRx, RtcpTx, RtcpTxFault};
+use perc_kdf::Kind;
 use perc_rtp::RtcpHead;
 
 // Master key, master salt, index, packet and sealed packet.
@@ -78,46 +79,15 @@ const VECTORS: [(&str, &str, u32, &str, &str); 10] = [
     ),
 ];
 
+// The end of the indices.
+const END: u32 = 1 << 31;
+
 // How many octets the longest sealed packet has.
 const LONGEST: usize = 128;
 
 const KEY: &str = "9e7c0bcc182c64b8d49689bbfccdeb08";
 
 const SALT: &str = "1bd6efe22271a98b973588f2";
-
-fn digit(text: u8) -> u8
-    ensures { result ≤ 15 }
-{
-    match text {
-        b'0'..=b'9' => text - b'0',
-        b'a'..=b'f' => text - b'a' + 10,
-        _ => 0,
-    }
-}
-
-// The octets that a text in hexadecimal digits spells, with zeros behind them.
-fn octets<const N: usize>(hex: &str) -> [u8; N] {
-    let hex = hex.as_bytes();
-    let mut octets = [0; N];
-    for i in 0..N {
-        if 2 * i + 1 < hex.len() {
-            octets[i] = 16 * digit(hex[2 * i]) + digit(hex[2 * i + 1]);
-        }
-    }
-    octets
-}
-
-// How many octets a text in hexadecimal digits spells.
-fn size(hex: &str) -> usize
-    ensures { result ≤ 128 }
-{
-    (hex.len() / 2).min(LONGEST)
-}
-
-fn keys_of(key: &str, salt: &str) -> Option<Keys> {
-    let master = Master::new(&octets::<32>(key)[..size(key).min(32)], &octets(salt))?;
-    Some(Keys::new(&master, Kind::Srtcp))
-}
 
 // Seals a packet whose head reads.
 fn seal_at(
@@ -138,19 +108,19 @@ fn seal_at(
 // Whether a packet is sealed as the row says, opens once, and to itself.
 fn seals_and_opens(row: &(&str, &str, u32, &str, &str)) -> bool {
     let (key, salt, index, plain, sealed) = *row;
-    let Some(keys) = keys_of(key, salt) else {
+    let Some(keys) = keys_of(key, salt, Kind::Srtcp) else {
         return false;
     };
+    let (len, end) = (size::<LONGEST>(plain), size::<LONGEST>(sealed));
     let mut packet = octets::<LONGEST>(plain);
-    let mut tx = RtcpTx::new(index.min(ENCRYPTED));
-    let made = seal_at(&keys, &mut tx, &mut packet, size(plain));
-    let is_sealed = made == Ok(size(sealed)) && packet == octets::<LONGEST>(sealed);
+    let mut tx = RtcpTx::new(index.min(END));
+    let made = seal_at(&keys, &mut tx, &mut packet, len);
+    let is_sealed = made == Ok(end) && packet == octets::<LONGEST>(sealed);
     let mut rx = RtcpRx::new();
-    let opened = rx.unseal(&keys, &mut packet[..size(sealed)]);
-    let is_opened = opened == Ok(size(plain))
-        && packet[..size(plain)] == octets::<LONGEST>(plain)[..size(plain)];
+    let opened = rx.unseal(&keys, &mut packet[..end]);
+    let is_opened = opened == Ok(len) && packet[..len] == octets::<LONGEST>(plain)[..len];
     let mut again = octets::<LONGEST>(sealed);
-    let repeated = rx.unseal(&keys, &mut again[..size(sealed)]);
+    let repeated = rx.unseal(&keys, &mut again[..end]);
     is_sealed && is_opened && repeated == Err(RtcpFault::Repeated)
 }
 
@@ -180,7 +150,7 @@ fn seal_in(keys: &Keys, tx: &mut RtcpTx, room: usize) -> (Result<usize, RtcpTxFa
 
 // The packet sealed at an index.
 fn sealed_at(keys: &Keys, index: u32) -> Option<[u8; 28]> {
-    let mut tx = RtcpTx::new(index.min(ENCRYPTED));
+    let mut tx = RtcpTx::new(index.min(END));
     let (answer, packet) = seal_in(keys, &mut tx, 28);
     answer.ok()?;
     Some(packet)
@@ -220,7 +190,7 @@ fn refuses(keys: &Keys, row: &(usize, u8, usize, RtcpFault)) -> bool {
 
 #[test]
 fn refusals(rt: HostRuntime) {
-    let keys = keys_of(KEY, SALT).expect(&rt, "the key has 16 octets");
+    let keys = keys_of(KEY, SALT, Kind::Srtcp).expect(&rt, "the key has 16 octets");
     let packet = sealed_at(&keys, 0).expect(&rt, "there is room");
     assert_eq!(rt; &packet[24..], b"\x80\x00\x00\x00".as_slice());
     for row in &REFUSALS {
@@ -232,7 +202,7 @@ fn refusals(rt: HostRuntime) {
         (73, Ok(8)),
         (72, Err(RtcpFault::TooOld)),
         (200, Err(RtcpFault::Repeated)),
-        (ENCRYPTED - 1, Ok(8)),
+        (END - 1, Ok(8)),
     ] {
         assert_eq!(rt; open_at(&keys, &mut rx, index), Some(want), "{index}");
     }
@@ -246,8 +216,8 @@ fn answers(keys: &Keys, tx: &mut RtcpTx, room: usize, want: Result<usize, RtcpTx
 
 #[test]
 fn last_index(rt: HostRuntime) {
-    let keys = keys_of(KEY, SALT).expect(&rt, "the key has 16 octets");
-    let mut tx = RtcpTx::new(ENCRYPTED - 1);
+    let keys = keys_of(KEY, SALT, Kind::Srtcp).expect(&rt, "the key has 16 octets");
+    let mut tx = RtcpTx::new(END - 1);
     for (room, want) in [
         (27, Err(RtcpTxFault::Room)),
         (28, Ok(28)),
@@ -256,6 +226,6 @@ fn last_index(rt: HostRuntime) {
     ] {
         assert!(rt; answers(&keys, &mut tx, room, want), "{want:?}");
     }
-    let mut spent = RtcpTx::new(ENCRYPTED);
+    let mut spent = RtcpTx::new(END);
     assert!(rt; answers(&keys, &mut spent, 28, Err(RtcpTxFault::Spent)));
 }

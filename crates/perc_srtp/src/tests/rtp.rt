@@ -1,10 +1,9 @@
 // Packets and IVs that were made outside, and what the ends of a stream refuse.
-ghost use Rattle.std.specs.Prelude.{◌<◌, ◌≤◌};
-
+use super::{keys_of, octets, size};
 use crate::{Keys, RxFault, RxStream, TxFault, TxStream, iv, rtcp_iv, seal_at, unseal_at};
 use byteorder::{BigEndian, ByteOrder};
 use perc_gcm::TagMismatch;
-use perc_kdf::{Kind, Master};
+use perc_kdf::Kind;
 use perc_rtp::RtpHead;
 
 // How many octets the longest packet here has.
@@ -149,52 +148,22 @@ const RTCP_IVS: [(&str, u32, u32, &str); 6] = [
     ),
 ];
 
-fn digit(character: u8) -> u8
-    ensures { result < 16 }
-{
-    match character {
-        b'0'..=b'9' => character - b'0',
-        b'a'..=b'f' => character - b'a' + 10,
-        _ => 0,
-    }
-}
+const KEY: &str = "000102030405060708090a0b0c0d0e0f";
 
-// The octets that a text in hexadecimal digits spells, and zeros behind them.
-fn spelled<const N: usize>(hex: &str) -> [u8; N] {
-    let hex = hex.as_bytes();
-    let mut octets = [0; N];
-    for i in 0..N {
-        if 2 * i + 1 < hex.len() {
-            octets[i] = 16 * digit(hex[2 * i]) + digit(hex[2 * i + 1]);
-        }
-    }
-    octets
-}
-
-fn size(hex: &str) -> usize
-    ensures { result ≤ 100 }
-{
-    (hex.len() / 2).min(LONGEST)
-}
-
-fn keys_of(master: &str, salt: &str) -> Option<Keys> {
-    let octets = spelled::<32>(master);
-    let master = Master::new(&octets[..size(master).min(32)], &spelled::<12>(salt))?;
-    Some(Keys::new(&master, Kind::Srtp))
-}
+const SALT: &str = "202122232425262728292a2b";
 
 // Whether a packet is sealed as it was outside, with what stands behind it kept, and opens again.
 fn is_sealed_so(row: &(&str, &str, u64, &str, &str)) -> bool {
     let (master, salt, index, plain, sealed) = *row;
-    let Some(keys) = keys_of(master, salt) else {
+    let Some(keys) = keys_of(master, salt, Kind::Srtp) else {
         return false;
     };
-    let (len, end) = (size(plain), size(sealed));
-    let mut packet = spelled::<LONGEST>(plain);
+    let (len, end) = (size::<LONGEST>(plain), size::<LONGEST>(sealed));
+    let mut packet = octets::<LONGEST>(plain);
     let same_len = seal_whole(&keys, index, &mut packet, len) == Some(end);
-    let same = packet == spelled::<LONGEST>(sealed);
+    let same = packet == octets::<LONGEST>(sealed);
     let opens = unseal_whole(&keys, index, &mut packet[..end]) == Some(Ok(len));
-    same_len && same && opens && packet[..len] == spelled::<LONGEST>(plain)[..len]
+    same_len && same && opens && packet[..len] == octets::<LONGEST>(plain)[..len]
 }
 
 // Seals the packet in the first `len` octets, where it is one and there is room for the tag.
@@ -226,13 +195,13 @@ fn packets(rt: HostRuntime) {
 fn ivs(rt: HostRuntime) {
     for (salt, ssrc, index, want) in &IVS {
         let index = index % (1 << 48);
-        assert_eq!(rt; iv(&spelled::<12>(salt), *ssrc, index), spelled::<12>(want));
+        assert_eq!(rt; iv(&octets::<12>(salt), *ssrc, index), octets::<12>(want));
     }
     for (salt, ssrc, index, want) in &RTCP_IVS {
         let index = index % (1 << 31);
         assert_eq!(rt;
-            rtcp_iv(&spelled::<12>(salt), *ssrc, index),
-            spelled::<12>(want)
+            rtcp_iv(&octets::<12>(salt), *ssrc, index),
+            octets::<12>(want)
         );
     }
 }
@@ -324,11 +293,7 @@ fn receive(
 
 #[test]
 fn sends(rt: HostRuntime) {
-    let keys = keys_of(
-        "000102030405060708090a0b0c0d0e0f",
-        "202122232425262728292a2b",
-    )
-    .expect(&rt, "the key has 16 octets");
+    let keys = keys_of(KEY, SALT, Kind::Srtp).expect(&rt, "the key has 16 octets");
     let mut stream = TxStream::new(0x1111_1111);
     for (seq, room, want) in [
         (0, 32, Err(TxFault::Room)),
@@ -353,11 +318,7 @@ fn sends(rt: HostRuntime) {
 
 #[test]
 fn receives(rt: HostRuntime) {
-    let keys = keys_of(
-        "000102030405060708090a0b0c0d0e0f",
-        "202122232425262728292a2b",
-    )
-    .expect(&rt, "the key has 16 octets");
+    let keys = keys_of(KEY, SALT, Kind::Srtp).expect(&rt, "the key has 16 octets");
     let mut stream = RxStream::new(0x1111_1111);
     for (index, len, want) in [
         (200, 27, Err(RxFault::Short)),
@@ -386,11 +347,7 @@ fn receives(rt: HostRuntime) {
 
 #[test]
 fn refuses_changed_packets(rt: HostRuntime) {
-    let keys = keys_of(
-        "000102030405060708090a0b0c0d0e0f",
-        "202122232425262728292a2b",
-    )
-    .expect(&rt, "the key has 16 octets");
+    let keys = keys_of(KEY, SALT, Kind::Srtp).expect(&rt, "the key has 16 octets");
     let mut stream = RxStream::new(0x1111_1111);
     let sealed = sealed_of(&keys, 5);
     for octet in [1, 2, 3, 4, 7, 12, 16, 17, 32] {
