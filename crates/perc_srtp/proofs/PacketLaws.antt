@@ -118,7 +118,8 @@ place_seq : (ssrc index : ℕ) → big_number 2 (drop 10 (place ssrc index)) ≡
 place_seq ssrc index = big_number-reads_back 2 (index % 65536) [] (omega arith)
 
 -- Packets with other SSRCs or other indices have other IVs under a salt.
-pub iv_injective : (salt : List ℕ) (ssrc other index next : ℕ) → ssrc < 2 ^ 32 → other < 2 ^ 32 → index < 2 ^ 48 → next < 2 ^ 48 → iv salt ssrc index ≡ iv salt other next → (ssrc ≡ other) × (index ≡ next)
+pub iv_injective : (salt : List ℕ) (ssrc other index next : ℕ) → ssrc < 2 ^ 32 → other < 2 ^ 32 → index < 2 ^ 48 → next < 2 ^ 48
+    → iv salt ssrc index ≡ iv salt other next → (ssrc ≡ other) × (index ≡ next)
 unfolding iv
 iv_injective salt ssrc other index next fits_ssrc fits_other fits_index fits_next is =
     let same : place ssrc index ≡ place other next =
@@ -142,7 +143,8 @@ rtcp_place_index : (ssrc index : ℕ) → index < 2 ^ 31 → big_number 4 (drop 
 rtcp_place_index ssrc index fits = big_number-reads_back 4 index [] (omega arith)
 
 -- RTCP packets with other SSRCs or other indices have other IVs under a salt.
-pub rtcp_iv_injective : (salt : List ℕ) (ssrc other index next : ℕ) → ssrc < 2 ^ 32 → other < 2 ^ 32 → index < 2 ^ 31 → next < 2 ^ 31 → rtcp_iv salt ssrc index ≡ rtcp_iv salt other next → (ssrc ≡ other) × (index ≡ next)
+pub rtcp_iv_injective : (salt : List ℕ) (ssrc other index next : ℕ) → ssrc < 2 ^ 32 → other < 2 ^ 32 → index < 2 ^ 31 → next < 2 ^ 31
+    → rtcp_iv salt ssrc index ≡ rtcp_iv salt other next → (ssrc ≡ other) × (index ≡ next)
 unfolding rtcp_iv
 rtcp_iv_injective salt ssrc other index next fits_ssrc fits_other fits_index fits_next is =
     let same : rtcp_place ssrc index ≡ rtcp_place other next =
@@ -212,22 +214,26 @@ rtcp_iv_octets salt ssrc index p =
 -- ---- bodies
 
 -- What is unsealed is what was sealed,
-pub unsealed_as_sealed : (keys : KeyAndSalt) (index : ℕ) (h : Header) (octets body : List ℕ) → unsealed_body keys index h octets ≡ Some body → octets ≡ sealed_body keys index h body
+pub unsealed_as_sealed : (keys : KeyAndSalt) (index : ℕ) (h : Header) (octets body : List ℕ) → unsealed_body keys index h octets ≡ Some body
+    → octets ≡ sealed_body keys index h body
 unfolding sealed_body unsealed_body
 unsealed_as_sealed keys index h octets body found = opens_as_sealed keys.key (iv keys.salt h.ssrc index) (spelling h) octets body found
 
 -- and what was sealed is unsealed.
-pub sealed_opens : (keys : KeyAndSalt) (index : ℕ) (h : Header) (octets body : List ℕ) → octets ≡ sealed_body keys index h body → unsealed_body keys index h octets ≡ Some body
+pub sealed_opens : (keys : KeyAndSalt) (index : ℕ) (h : Header) (octets body : List ℕ) → octets ≡ sealed_body keys index h body
+    → unsealed_body keys index h octets ≡ Some body
 unfolding sealed_body unsealed_body
 sealed_opens keys index h octets body is = text_opens keys.key (iv keys.salt h.ssrc index) (spelling h) octets body is
 
 -- Where nothing is unsealed no body was sealed,
-pub forged_body : (keys : KeyAndSalt) (index : ℕ) (h : Header) (octets : List ℕ) → unsealed_body keys index h octets ≡ None → (body : List ℕ) → octets ≡ sealed_body keys index h body → ⊥
+pub forged_body : (keys : KeyAndSalt) (index : ℕ) (h : Header) (octets : List ℕ) → unsealed_body keys index h octets ≡ None → (body : List ℕ)
+    → octets ≡ sealed_body keys index h body → ⊥
 unfolding sealed_body unsealed_body
 forged_body keys index h octets none body is = none_sealed keys.key (iv keys.salt h.ssrc index) (spelling h) octets none body is
 
 -- and the other way round.
-pub forged_opens : (keys : KeyAndSalt) (index : ℕ) (h : Header) (octets : List ℕ) → ((body : List ℕ) → octets ≡ sealed_body keys index h body → ⊥) → unsealed_body keys index h octets ≡ None
+pub forged_opens : (keys : KeyAndSalt) (index : ℕ) (h : Header) (octets : List ℕ) → ((body : List ℕ) → octets ≡ sealed_body keys index h body → ⊥)
+    → unsealed_body keys index h octets ≡ None
 unfolding sealed_body unsealed_body
 forged_opens keys index h octets none = none_opens keys.key (iv keys.salt h.ssrc index) (spelling h) octets none
 
@@ -237,7 +243,8 @@ unfolding sealed_body
 length-sealed_body keys index h body = length-sealed_text keys.key (iv keys.salt h.ssrc index) (spelling h) body
 
 -- What is sealed is octets.
-pub sealed_body_octets : (keys : KeyAndSalt) (index : ℕ) (h : Header) (body : List ℕ) → IsSession keys → ((k : ℕ) → get_or body k 0 < 256) → (k : ℕ) → get_or (sealed_body keys index h body) k 0 < 256
+pub sealed_body_octets : (keys : KeyAndSalt) (index : ℕ) (h : Header) (body : List ℕ) → IsSession keys → ((k : ℕ) → get_or body k 0 < 256) → (k : ℕ)
+    → get_or (sealed_body keys index h body) k 0 < 256
 unfolding sealed_body
 sealed_body_octets keys index h body session octets =
     sealed_octets keys.key (iv keys.salt h.ssrc index) (spelling h) body session.key (length-iv keys.salt h.ssrc index) (iv_octets keys.salt h.ssrc index session.salt_octets) octets
@@ -257,7 +264,8 @@ same_parts a b s t is long =
     (sym (take_at a s n refl) ∙ ap (take n) is ∙ take_at b t n size, sym (drop_at a s n refl) ∙ ap (drop n) is ∙ drop_at b t n size)
 
 -- What is sealed under a key, over one additional data, has one IV.
-text_iv : (key v w aad a b : List ℕ) → IsKey key → length v ≡ 12 → length w ≡ 12 → ((k : ℕ) → get_or v k 0 < 256) → ((k : ℕ) → get_or w k 0 < 256) → sealed_text key v aad a ≡ sealed_text key w aad b → v ≡ w
+text_iv : (key v w aad a b : List ℕ) → IsKey key → length v ≡ 12 → length w ≡ 12 → ((k : ℕ) → get_or v k 0 < 256) → ((k : ℕ) → get_or w k 0 < 256)
+    → sealed_text key v aad a ≡ sealed_text key w aad b → v ≡ w
 text_iv key v w aad a b is v_size w_size v_octets w_octets same =
     let c : List ℕ = ciphertext key v a in
     let d : List ℕ = ciphertext key w b in
@@ -266,7 +274,8 @@ text_iv key v w aad a b is v_size w_size v_octets w_octets same =
     iv_is_one key v w aad c is v_size w_size v_octets w_octets (parts.1 ∙ ap (tag key w aad) (sym parts.0))
 
 -- So a sealed body tells its index.
-pub body_index : (keys : KeyAndSalt) (i j : ℕ) (h : Header) (a b : List ℕ) → IsSession keys → h.ssrc < 2 ^ 32 → i < 2 ^ 48 → j < 2 ^ 48 → sealed_body keys i h a ≡ sealed_body keys j h b → (i ≡ j) × (a ≡ b)
+pub body_index : (keys : KeyAndSalt) (i j : ℕ) (h : Header) (a b : List ℕ) → IsSession keys → h.ssrc < 2 ^ 32 → i < 2 ^ 48 → j < 2 ^ 48
+    → sealed_body keys i h a ≡ sealed_body keys j h b → (i ≡ j) × (a ≡ b)
 unfolding sealed_body
 body_index keys i j h a b session ssrc fits_i fits_j same =
     let v : List ℕ = iv keys.salt h.ssrc i in
@@ -280,19 +289,22 @@ body_index keys i j h a b session ssrc fits_i fits_j same =
 -- ---- packets
 
 -- a sealed packet has one header and one rest
-one_header : (keys : KeyAndSalt) (i j : ℕ) (h g : Header) (a b : List ℕ) → IsHeader h → IsHeader g → sealed keys i h a ≡ sealed keys j g b → (h ≡ g) × (sealed_body keys i h a ≡ sealed_body keys j h b)
+one_header : (keys : KeyAndSalt) (i j : ℕ) (h g : Header) (a b : List ℕ) → IsHeader h → IsHeader g → sealed keys i h a ≡ sealed keys j g b
+    → (h ≡ g) × (sealed_body keys i h a ≡ sealed_body keys j h b)
 one_header keys i j h g a b is_h is_g same =
     let one = one_packet h g (sealed_body keys i h a) (sealed_body keys j g b) (sealed keys i h a) (record { header = is_h; octets = refl }) (record { header = is_g; octets = same }) in
     (one.0, one.1 ∙ ap (λ (k : Header). sealed_body keys j k b) (sym one.0))
 
 -- No two packets are sealed to the same octets at an index.
-pub sealed_injective : (keys : KeyAndSalt) (index : ℕ) (h g : Header) (a b : List ℕ) → IsHeader h → IsHeader g → sealed keys index h a ≡ sealed keys index g b → (h ≡ g) × (a ≡ b)
+pub sealed_injective : (keys : KeyAndSalt) (index : ℕ) (h g : Header) (a b : List ℕ) → IsHeader h → IsHeader g
+    → sealed keys index h a ≡ sealed keys index g b → (h ≡ g) × (a ≡ b)
 sealed_injective keys index h g a b is_h is_g same =
     let one = one_header keys index index h g a b is_h is_g same in
     (one.0, body_injective keys index h a b one.1)
 
 -- Nor are they at different indices.
-pub one_index : (keys : KeyAndSalt) (i j : ℕ) (h g : Header) (a b : List ℕ) → IsSession keys → i < 2 ^ 48 → j < 2 ^ 48 → IsHeader h → IsHeader g → sealed keys i h a ≡ sealed keys j g b → (i ≡ j) × (h ≡ g) × (a ≡ b)
+pub one_index : (keys : KeyAndSalt) (i j : ℕ) (h g : Header) (a b : List ℕ) → IsSession keys → i < 2 ^ 48 → j < 2 ^ 48 → IsHeader h → IsHeader g
+    → sealed keys i h a ≡ sealed keys j g b → (i ≡ j) × (h ≡ g) × (a ≡ b)
 one_index keys i j h g a b session fits_i fits_j is_h is_g same =
     let one = one_header keys i j h g a b is_h is_g same in
     let body = body_index keys i j h a b session is_h.ssrc fits_i fits_j one.1 in

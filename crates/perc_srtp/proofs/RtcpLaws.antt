@@ -85,7 +85,8 @@ by_tag keys index packet least word =
     ((bytes_eq-Decides (index_word packet) (rtcp_word index)).1 word)
 
 -- What was sealed opens,
-pub rtcp_opens : (keys : KeyAndSalt) (index : ℕ) (packet plain : List ℕ) → 8 ≤ length plain → packet ≡ sealed_rtcp keys index plain → unsealed_rtcp keys index packet ≡ Some plain
+pub rtcp_opens : (keys : KeyAndSalt) (index : ℕ) (packet plain : List ℕ) → 8 ≤ length plain → packet ≡ sealed_rtcp keys index plain
+    → unsealed_rtcp keys index packet ≡ Some plain
 rtcp_opens keys index packet plain within is =
     let parts = parts_of keys index plain packet within is in
     let size = parts.size in
@@ -111,7 +112,8 @@ text_behind head None y e = cc
 text_behind head (Some t) y e = (t, refl, sym (same_Some (head ++ t) y e))
 
 -- and what opens was sealed.
-pub rtcp_as_sealed : (keys : KeyAndSalt) (index : ℕ) (packet plain : List ℕ) → unsealed_rtcp keys index packet ≡ Some plain → (packet ≡ sealed_rtcp keys index plain) × (8 ≤ length plain)
+pub rtcp_as_sealed : (keys : KeyAndSalt) (index : ℕ) (packet plain : List ℕ) → unsealed_rtcp keys index packet ≡ Some plain
+    → (packet ≡ sealed_rtcp keys index plain) × (8 ≤ length plain)
 unfolding unsealed_rtcp sealed_rtcp
 rtcp_as_sealed keys index packet plain opens =
     let v : List ℕ = rtcp_iv keys.salt (rtcp_ssrc packet) index in
@@ -133,7 +135,8 @@ rtcp_as_sealed keys index packet plain opens =
     )
 
 -- Where nothing opens no packet was sealed,
-pub forged_rtcp : (keys : KeyAndSalt) (index : ℕ) (packet : List ℕ) → unsealed_rtcp keys index packet ≡ None → (plain : List ℕ) → 8 ≤ length plain → packet ≡ sealed_rtcp keys index plain → ⊥
+pub forged_rtcp : (keys : KeyAndSalt) (index : ℕ) (packet : List ℕ) → unsealed_rtcp keys index packet ≡ None → (plain : List ℕ) → 8 ≤ length plain
+    → packet ≡ sealed_rtcp keys index plain → ⊥
 forged_rtcp keys index packet none plain within is =
     let opens = rtcp_opens keys index packet plain within is in
     cc
@@ -143,7 +146,8 @@ is_none None not = refl
 is_none (Some x) not = absurd (not x refl)
 
 -- and the other way round.
-pub forged_rtcp_opens : (keys : KeyAndSalt) (index : ℕ) (packet : List ℕ) → ((plain : List ℕ) → 8 ≤ length plain → packet ≡ sealed_rtcp keys index plain → ⊥) → unsealed_rtcp keys index packet ≡ None
+pub forged_rtcp_opens : (keys : KeyAndSalt) (index : ℕ) (packet : List ℕ)
+    → ((plain : List ℕ) → 8 ≤ length plain → packet ≡ sealed_rtcp keys index plain → ⊥) → unsealed_rtcp keys index packet ≡ None
 forged_rtcp_opens keys index packet none =
     is_none (unsealed_rtcp keys index packet) (λ plain opens. let was = rtcp_as_sealed keys index packet plain opens in none plain was.1 was.0)
 
@@ -153,7 +157,8 @@ word_number : (index : ℕ) → index < 2 ^ 31 → big_number 4 (rtcp_word index
 word_number index fits = big_number-reads_back 4 (2 ^ 31 + index) [] (omega arith)
 
 -- A sealed packet tells its index, and was sealed of one packet.
-pub rtcp_one_index : (keys : KeyAndSalt) (i j : ℕ) (a b : List ℕ) → i < 2 ^ 31 → j < 2 ^ 31 → 8 ≤ length a → 8 ≤ length b → sealed_rtcp keys i a ≡ sealed_rtcp keys j b → (i ≡ j) × (a ≡ b)
+pub rtcp_one_index : (keys : KeyAndSalt) (i j : ℕ) (a b : List ℕ) → i < 2 ^ 31 → j < 2 ^ 31 → 8 ≤ length a → 8 ≤ length b
+    → sealed_rtcp keys i a ≡ sealed_rtcp keys j b → (i ≡ j) × (a ≡ b)
 rtcp_one_index keys i j a b fits_i fits_j within_a within_b same =
     let p : List ℕ = sealed_rtcp keys i a in
     let words : rtcp_word i ≡ rtcp_word j = sym (parts_of keys i a p within_a refl).word ∙ (parts_of keys j b p within_b same).word in
@@ -176,7 +181,8 @@ drop_below : (n : ℕ) (xs : List ℕ) → ((k : ℕ) → get_or xs k 0 < 256) �
 drop_below n xs all k = omega (arith, get_or-drop n xs k 0, all (n + k))
 
 -- What is sealed is octets.
-pub sealed_rtcp_octets : (keys : KeyAndSalt) (index : ℕ) (plain : List ℕ) → IsSession keys → ((k : ℕ) → get_or plain k 0 < 256) → (k : ℕ) → get_or (sealed_rtcp keys index plain) k 0 < 256
+pub sealed_rtcp_octets : (keys : KeyAndSalt) (index : ℕ) (plain : List ℕ) → IsSession keys → ((k : ℕ) → get_or plain k 0 < 256) → (k : ℕ)
+    → get_or (sealed_rtcp keys index plain) k 0 < 256
 unfolding sealed_rtcp
 sealed_rtcp_octets keys index plain session octets =
     let v : List ℕ = rtcp_iv keys.salt (rtcp_ssrc plain) index in

@@ -23,7 +23,8 @@ end_put a xs ys =
     ∙ ap (λ (r : List ℕ). take a xs ++ r) (append-nil ys)
 
 -- the tag and the word, written one after the other
-pub end_written : (copy tag word out buf : List ℕ) → copy ≡ tag → length tag ≡ 16 → buf ≡ word ++ drop 4 (take (length (copy ++ drop 16 out) - 16) (drop 16 (copy ++ drop 16 out)))
+pub end_written : (copy tag word out buf : List ℕ) → copy ≡ tag → length tag ≡ 16
+    → buf ≡ word ++ drop 4 (take (length (copy ++ drop 16 out) - 16) (drop 16 (copy ++ drop 16 out)))
     → put_mid 16 (length (copy ++ drop 16 out) - 16) (copy ++ drop 16 out) buf ≡ tag ++ word ++ drop 20 out
 end_written copy tag word out buf same size is =
     let xs : List ℕ = copy ++ drop 16 out in
@@ -50,7 +51,9 @@ grouped : (h c t w r : List ℕ) → (h ++ c) ++ ((t ++ w) ++ r) ≡ ((h ++ (c +
 grouped h c t w r = simp append_assoc
 
 -- those parts are the sealed packet
-parts_sealed : (keys : KeyAndSalt) (packet made aad text tag : List ℕ) (index len ssrc word : ℕ) → IsMade keys packet made aad text tag index len ssrc word → take 8 packet ++ (text ++ tag) ++ rtcp_word index ≡ sealed_rtcp keys index (take len packet)
+parts_sealed : (keys : KeyAndSalt) (packet made aad text tag : List ℕ) (index len ssrc word : ℕ)
+    → IsMade keys packet made aad text tag index len ssrc word
+    → take 8 packet ++ (text ++ tag) ++ rtcp_word index ≡ sealed_rtcp keys index (take len packet)
 unfolding sealed_rtcp
 parts_sealed keys packet made aad text tag index len ssrc word m =
     let q : List ℕ = take len packet in
@@ -108,7 +111,8 @@ text_and_tag packet least =
     ∙ ap (λ (k : ℕ). take k (drop 8 packet)) (sym end)
 
 -- So the packet opens where its text does.
-pub opens_by_text : (keys : KeyAndSalt) (packet made aad tag : List ℕ) (index ssrc word : ℕ) → IsCut keys packet made aad tag index ssrc word → unsealed_rtcp keys index packet ≡ option_map (λ text. take 8 packet ++ text) (text_of keys packet made aad tag)
+pub opens_by_text : (keys : KeyAndSalt) (packet made aad tag : List ℕ) (index ssrc word : ℕ) → IsCut keys packet made aad tag index ssrc word
+    → unsealed_rtcp keys index packet ≡ option_map (λ text. take 8 packet ++ text) (text_of keys packet made aad tag)
 opens_by_text keys packet made aad tag index ssrc word c =
     let least : 28 ≤ length packet = c.least in
     let iv_is : rtcp_iv keys.salt (rtcp_ssrc packet) index ≡ made = sym (c.iv_is ∙ ap (λ (s : ℕ). rtcp_iv keys.salt s index) c.ssrc_is) in
@@ -119,7 +123,8 @@ opens_by_text keys packet made aad tag index ssrc word c =
     ∙ (λ i. option_map (λ text. take 8 packet ++ text) (unsealed_text keys.key (iv_is i) (aad_is i) (octets i)))
 
 -- What opened stands at the front.
-pub opened : (keys : KeyAndSalt) (packet made aad tag text : List ℕ) (index ssrc word : ℕ) → IsCut keys packet made aad tag index ssrc word → text_of keys packet made aad tag ≡ Some text
+pub opened : (keys : KeyAndSalt) (packet made aad tag text : List ℕ) (index ssrc word : ℕ) → IsCut keys packet made aad tag index ssrc word
+    → text_of keys packet made aad tag ≡ Some text
     → (plain : List ℕ) × (unsealed_rtcp keys index packet ≡ Some plain) × (length packet - 20 ≡ length plain) × BeginsWith plain (put_mid 8 (length packet - 20 - 8) packet text)
 opened keys packet made aad tag text index ssrc word c found =
     let least : 28 ≤ length packet = c.least in
@@ -136,6 +141,7 @@ opened keys packet made aad tag text index ssrc word c found =
       ap (λ (k : ℕ). take k (put_mid 8 (n - 8) packet text)) (sym n_is) ∙ take-put_mid 8 (n - 8) packet text n (omega arith) (omega arith),
     )
 
-pub forged : (keys : KeyAndSalt) (packet made aad tag : List ℕ) (index ssrc word : ℕ) → IsCut keys packet made aad tag index ssrc word → text_of keys packet made aad tag ≡ None → unsealed_rtcp keys index packet ≡ None
+pub forged : (keys : KeyAndSalt) (packet made aad tag : List ℕ) (index ssrc word : ℕ) → IsCut keys packet made aad tag index ssrc word
+    → text_of keys packet made aad tag ≡ None → unsealed_rtcp keys index packet ≡ None
 forged keys packet made aad tag index ssrc word c none =
     opens_by_text keys packet made aad tag index ssrc word c ∙ ap (option_map (λ t. take 8 packet ++ t)) none

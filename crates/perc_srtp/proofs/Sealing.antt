@@ -26,13 +26,15 @@ head_read h answer head is read =
     record { len_is = ap (λ (r : RtpHead). r.len) same; ssrc_is = ap (λ (r : RtpHead). r.ssrc) same; seq_is = ap (λ (r : RtpHead). r.seq) same }
 
 -- The IV made of the SSRC that was read is the header's.
-pub iv_read : (keys : KeyAndSalt) (index : ℕ) (h : Header) (head : RtpHead) (made : List ℕ) → IsRead h head → made ≡ iv keys.salt head.ssrc index → made ≡ iv keys.salt h.ssrc index
+pub iv_read : (keys : KeyAndSalt) (index : ℕ) (h : Header) (head : RtpHead) (made : List ℕ) → IsRead h head → made ≡ iv keys.salt head.ssrc index
+    → made ≡ iv keys.salt h.ssrc index
 iv_read keys index h head made read made_is = made_is ∙ ap (λ (s : ℕ). iv keys.salt s index) read.ssrc_is
 
 -- ---- sealing
 
 -- the header and the body of a packet
-cut_in_two : (h : Header) (body packet : List ℕ) (cut : ℕ) → IsPacket h body packet → cut ≡ length (spelling h) → (take cut packet ≡ spelling h) × (drop cut packet ≡ body)
+cut_in_two : (h : Header) (body packet : List ℕ) (cut : ℕ) → IsPacket h body packet → cut ≡ length (spelling h)
+    → (take cut packet ≡ spelling h) × (drop cut packet ≡ body)
 cut_in_two h body packet cut is cut_is =
     (ap (take cut) is.octets ∙ take_at (spelling h) body cut (sym cut_is), ap (drop cut) is.octets ∙ drop_at (spelling h) body cut (sym cut_is))
 
@@ -81,14 +83,16 @@ abbrev pub text_of : KeyAndSalt → List ℕ → List ℕ → List ℕ → ℕ �
 text_of keys packet made tag cut =
     unsealed_text keys.key made (take cut (take (length packet - 16) packet)) (drop cut (take (length packet - 16) packet) ++ tag)
 
-cut_header : (keys : KeyAndSalt) (h : Header) (rest packet made tag : List ℕ) (index cut : ℕ) → IsCut keys h rest packet made tag index cut → take cut (take (length packet - 16) packet) ≡ spelling h
+cut_header : (keys : KeyAndSalt) (h : Header) (rest packet made tag : List ℕ) (index cut : ℕ) → IsCut keys h rest packet made tag index cut
+    → take cut (take (length packet - 16) packet) ≡ spelling h
 cut_header keys h rest packet made tag index cut c =
     let long = c.long in
     let cut_is = c.cut_is in
     take-take cut (length packet - 16) packet (omega (arith, ap length c.packet_is.octets, length-append (spelling h) rest))
     ∙ (cut_in_two h rest packet cut c.packet_is c.cut_is).0
 
-cut_rest : (keys : KeyAndSalt) (h : Header) (rest packet made tag : List ℕ) (index cut : ℕ) → IsCut keys h rest packet made tag index cut → drop cut (take (length packet - 16) packet) ++ tag ≡ rest
+cut_rest : (keys : KeyAndSalt) (h : Header) (rest packet made tag : List ℕ) (index cut : ℕ) → IsCut keys h rest packet made tag index cut
+    → drop cut (take (length packet - 16) packet) ++ tag ≡ rest
 cut_rest keys h rest packet made tag index cut c =
     let long = c.long in
     let cut_is = c.cut_is in
@@ -101,7 +105,8 @@ cut_rest keys h rest packet made tag index cut c =
     (λ i. text i ++ end i) ∙ take-append-drop m rest
 
 -- That is what the rest opens to.
-pub text_is : (keys : KeyAndSalt) (h : Header) (rest packet made tag : List ℕ) (index cut : ℕ) → IsCut keys h rest packet made tag index cut → text_of keys packet made tag cut ≡ unsealed_body keys index h rest
+pub text_is : (keys : KeyAndSalt) (h : Header) (rest packet made tag : List ℕ) (index cut : ℕ) → IsCut keys h rest packet made tag index cut
+    → text_of keys packet made tag cut ≡ unsealed_body keys index h rest
 unfolding unsealed_body
 text_is keys h rest packet made tag index cut c =
     let header : take cut (take (length packet - 16) packet) ≡ spelling h = cut_header keys h rest packet made tag index cut c in
@@ -110,7 +115,8 @@ text_is keys h rest packet made tag index cut c =
     λ i. unsealed_text keys.key (iv_is i) (header i) (octets i)
 
 -- What opened stands behind the header.
-pub opened : (keys : KeyAndSalt) (h : Header) (rest packet made tag text new : List ℕ) (index cut : ℕ) → IsCut keys h rest packet made tag index cut → text_of keys packet made tag cut ≡ Some text → new ≡ take cut (take (length packet - 16) packet) ++ text
+pub opened : (keys : KeyAndSalt) (h : Header) (rest packet made tag text new : List ℕ) (index cut : ℕ) → IsCut keys h rest packet made tag index cut
+    → text_of keys packet made tag cut ≡ Some text → new ≡ take cut (take (length packet - 16) packet) ++ text
     → (unsealed_body keys index h rest ≡ Some text) × (length packet - 16 ≡ length (spelling h ++ text)) × BeginsWith (spelling h ++ text) (new ++ drop (length packet - 16) packet)
 opened keys h rest packet made tag text new index cut c found new_is =
     let body : unsealed_body keys index h rest ≡ Some text = sym (text_is keys h rest packet made tag index cut c) ∙ found in
@@ -127,26 +133,31 @@ opened keys h rest packet made tag text new index cut c found new_is =
 alone : (h : Header) (header : List ℕ) → IsPacket h [] header → header ≡ spelling h
 alone h header is = is.octets ∙ append-nil (spelling h)
 
-pub sealed_behind : (keys : KeyAndSalt) (h : Header) (header body octets made : List ℕ) (index : ℕ) → IsPacket h [] header → made ≡ iv keys.salt h.ssrc index → octets ≡ sealed_text keys.key made header body → octets ≡ sealed_body keys index h body
+pub sealed_behind : (keys : KeyAndSalt) (h : Header) (header body octets made : List ℕ) (index : ℕ) → IsPacket h [] header
+    → made ≡ iv keys.salt h.ssrc index → octets ≡ sealed_text keys.key made header body → octets ≡ sealed_body keys index h body
 unfolding sealed_body
 sealed_behind keys h header body octets made index is iv_is sealed_is =
     let whole : header ≡ spelling h = alone h header is in
     sealed_is ∙ (λ i. sealed_text keys.key (iv_is i) (whole i) body)
 
-pub text_behind : (keys : KeyAndSalt) (h : Header) (header octets made : List ℕ) (index : ℕ) → IsPacket h [] header → made ≡ iv keys.salt h.ssrc index → unsealed_text keys.key made header octets ≡ unsealed_body keys index h octets
+pub text_behind : (keys : KeyAndSalt) (h : Header) (header octets made : List ℕ) (index : ℕ) → IsPacket h [] header → made ≡ iv keys.salt h.ssrc index
+    → unsealed_text keys.key made header octets ≡ unsealed_body keys index h octets
 unfolding unsealed_body
 text_behind keys h header octets made index is iv_is =
     let whole : header ≡ spelling h = alone h header is in
     λ i. unsealed_text keys.key (iv_is i) (whole i) octets
 
 -- what is answered, from what was found
-pub answered : {A E : Type 0} (answer : Result A E) (found : Option (List ℕ)) (old new : List ℕ) → MatchResult answer (λ _. found ≡ Some new) (λ _. found ≡ None) → IfErr answer (λ _. new ≡ old)
+pub answered : {A E : Type 0} (answer : Result A E) (found : Option (List ℕ)) (old new : List ℕ)
+    → MatchResult answer (λ _. found ≡ Some new) (λ _. found ≡ None) → IfErr answer (λ _. new ≡ old)
     → MatchOption found (IsErr answer × (new ≡ old)) (λ plain. IsOk answer × (new ≡ plain))
 answered (Ok a) found old new told same = rw told (refl, refl)
 answered (Err e) found old new told same = rw told (refl, same)
 
 -- the same by what was sealed
-pub answered_as_sealed : {A E : Type 0} (answer : Result A E) (keys : KeyAndSalt) (h : Header) (octets old new : List ℕ) (index : ℕ) → MatchResult answer (λ _. unsealed_body keys index h octets ≡ Some new) (λ _. unsealed_body keys index h octets ≡ None) → IfErr answer (λ _. new ≡ old)
+pub answered_as_sealed : {A E : Type 0} (answer : Result A E) (keys : KeyAndSalt) (h : Header) (octets old new : List ℕ) (index : ℕ)
+    → MatchResult answer (λ _. unsealed_body keys index h octets ≡ Some new) (λ _. unsealed_body keys index h octets ≡ None)
+    → IfErr answer (λ _. new ≡ old)
     → MatchResult answer (λ _. octets ≡ sealed_body keys index h new) (λ _. ((plain : List ℕ) → octets ≡ sealed_body keys index h plain → ⊥) × (new ≡ old))
 answered_as_sealed (Ok a) keys h octets old new index told same = unsealed_as_sealed keys index h octets new told
 answered_as_sealed (Err e) keys h octets old new index told same = (forged_body keys index h octets told, same)
@@ -154,14 +165,16 @@ answered_as_sealed (Err e) keys h octets old new index told same = (forged_body 
 -- ---- answers by what was found
 
 -- Where a value was answered, something was found.
-pub found_by : {A E : Type 0} (X : Type 0) (P : List ℕ → Type 0) (answer : Result A E) (value : A) (found : Option (List ℕ)) → answer ≡ Ok value → MatchOption found (IsErr answer × X) P → (octets : List ℕ) × (found ≡ Some octets) × P octets
+pub found_by : {A E : Type 0} (X : Type 0) (P : List ℕ → Type 0) (answer : Result A E) (value : A) (found : Option (List ℕ)) → answer ≡ Ok value
+    → MatchOption found (IsErr answer × X) P → (octets : List ℕ) × (found ≡ Some octets) × P octets
 found_by X P answer value None is told =
     let failed = told.0 in
     absurd (cc)
 found_by X P answer value (Some octets) is told = (octets, refl, told)
 
 -- Where a fault was answered, nothing was.
-pub missed_by : {A E : Type 0} (X : Type 0) (P : List ℕ → Type 0) (value : List ℕ → A) (answer : Result A E) (fault : E) (found : Option (List ℕ)) → answer ≡ Err fault → MatchOption found X (λ octets. (answer ≡ Ok (value octets)) × P octets) → found ≡ None
+pub missed_by : {A E : Type 0} (X : Type 0) (P : List ℕ → Type 0) (value : List ℕ → A) (answer : Result A E) (fault : E) (found : Option (List ℕ))
+    → answer ≡ Err fault → MatchOption found X (λ octets. (answer ≡ Ok (value octets)) × P octets) → found ≡ None
 missed_by X P value answer fault None is told = refl
 missed_by X P value answer fault (Some octets) is told =
     let answered = told.0 in

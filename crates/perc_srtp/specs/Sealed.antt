@@ -69,7 +69,8 @@ sealed_part packet = take (length packet - 12) (drop 8 packet)
 unfoldable pub unsealed_rtcp : KeyAndSalt → ℕ → List ℕ → Option (List ℕ)
 unsealed_rtcp keys index packet =
     if nat_le 28 (length packet) && bytes_eq (index_word packet) (rtcp_word index)
-    then option_map (λ text. take 8 packet ++ text) (unsealed_text keys.key (rtcp_iv keys.salt (rtcp_ssrc packet) index) (rtcp_aad index packet) (sealed_part packet))
+    then option_map (λ text. take 8 packet ++ text)
+    (unsealed_text keys.key (rtcp_iv keys.salt (rtcp_ssrc packet) index) (rtcp_aad index packet) (sealed_part packet))
     else None
 
 -- ---- what stands in a buffer

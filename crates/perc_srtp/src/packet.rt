@@ -21,7 +21,8 @@ pub fn seal_at(keys: &Keys, index: u64, packet: &mut [u8], len: usize) -> usize
     requires room { len + 16 ≤ length packet.old }
     requires reads { IsRtp (take len packet.old) }
     ensures len { result ≡ len + 16 }
-    ensures sealed { (h : Header) (body : List ℕ) → IsPacket h body (take len packet.old) → packet.new ≡ sealed keys.now index h body ++ drop (len + 16) packet.old }
+    ensures sealed { (h : Header) (body : List ℕ) → IsPacket h body (take len packet.old)
+        → packet.new ≡ sealed keys.now index h body ++ drop (len + 16) packet.old }
 {
     let head = RtpHead::read(&packet[..len]).unwrap();
     let iv = iv(&keys.salt, head.ssrc, index);
@@ -72,7 +73,9 @@ fn unseal_body(
 ) -> Result<(), TagMismatch>
     requires few { length packet.old ≤ 65536 }
     requires cut { cut ≤ length packet.old }
-    ensures opened { IfOk result (λ _. (text : List ℕ) × (unsealed_text keys.now.key iv.now (take cut packet.old) (drop cut packet.old ++ tag.now) ≡ Some text) × (packet.new ≡ take cut packet.old ++ text)) }
+    ensures opened { IfOk result (λ _. (text : List ℕ)
+        × (unsealed_text keys.now.key iv.now (take cut packet.old) (drop cut packet.old ++ tag.now) ≡ Some text)
+        × (packet.new ≡ take cut packet.old ++ text)) }
     ensures forged { OnErr result (unsealed_text keys.now.key iv.now (take cut packet.old) (drop cut packet.old ++ tag.now) ≡ None) }
     ensures refused { OnErr result (packet.new ≡ packet.old) }
 {

@@ -82,7 +82,8 @@ impl RtcpTx {
         requires reads { IsOk (rtcp_head (take len packet.old)) }
         ensures room { (result ≡ Err RtcpTxFault.Room) ↔ (length packet.old < len + 20) }
         ensures spent { (result ≡ Err RtcpTxFault.Spent) ↔ ((len + 20 ≤ length packet.old) × (self.old ≡ 2 ^ 31)) }
-        ensures sealed { IfOk result (λ n. (n ≡ len + 20) × (packet.new ≡ sealed_rtcp keys.now self.old (take len packet.old) ++ drop (len + 20) packet.old)) }
+        ensures sealed { IfOk result (λ n. (n ≡ len + 20)
+            × (packet.new ≡ sealed_rtcp keys.now self.old (take len packet.old) ++ drop (len + 20) packet.old)) }
         ensures next { IfOk result (λ _. self.new ≡ self.old + 1) }
         ensures refused { OnErr result ((packet.new ≡ packet.old) × (self.new ≡ self.old)) }
     {
@@ -210,7 +211,8 @@ fn open_packet(keys: &Keys, index: u32, packet: &mut [u8]) -> Result<usize, TagM
     requires least { 28 ≤ length packet.old }
     requires index { index < 2 ^ 31 }
     requires word { rtcp_word index ≡ index_word packet.old }
-    ensures opened { IfOk result (λ n. (plain : List ℕ) × (unsealed_rtcp keys.now index packet.old ≡ Some plain) × (n ≡ length plain) × BeginsWith plain packet.new) }
+    ensures opened { IfOk result (λ n. (plain : List ℕ)
+        × (unsealed_rtcp keys.now index packet.old ≡ Some plain) × (n ≡ length plain) × BeginsWith plain packet.new) }
     ensures forged { OnErr result (unsealed_rtcp keys.now index packet.old ≡ None) }
     ensures refused { OnErr result (packet.new ≡ packet.old) }
     ensures len { IfOk result (λ n. n + 20 ≡ length packet.old) }

@@ -76,9 +76,12 @@ impl TxStream {
     pub fn seal(&mut self, keys: &Keys, packet: &mut [u8], len: usize) -> Result<usize, TxFault>
         requires few { length packet.old ≤ 65536 }
         requires reads { (h : Header) × (body : List ℕ) × IsPacket h body (take len packet.old) × (h.ssrc ≡ self.old.ssrc) }
-        ensures answer { (before : List ℕ) (h : Header) (body : List ℕ) → StandsFor self.old.window before → IsPacket h body (take len packet.old)
+        ensures answer { (before : List ℕ) (h : Header) (body : List ℕ) → StandsFor self.old.window before
+            → IsPacket h body (take len packet.old)
             → MatchResult (tx_place before h.seq len (length packet.old))
-            (λ index. (result ≡ Ok (len + 16)) × (packet.new ≡ sealed keys.now index h body ++ drop (len + 16) packet.old) × StandsFor self.new.window (index ∷ before))
+            (λ index. (result ≡ Ok (len + 16))
+            × (packet.new ≡ sealed keys.now index h body ++ drop (len + 16) packet.old)
+            × StandsFor self.new.window (index ∷ before))
             (λ fault. (result ≡ Err fault) × (packet.new ≡ packet.old) × (self.new ≡ self.old)) }
         ensures refused { OnErr result ((packet.new ≡ packet.old) × (self.new ≡ self.old)) }
         ensures ssrc { self.new.ssrc ≡ self.old.ssrc }
@@ -152,7 +155,9 @@ impl RxStream {
         requires reads { (h : Header) × (rest : List ℕ) × IsPacket h rest packet.old × (h.ssrc ≡ self.old.ssrc) }
         ensures answer { (before : List ℕ) (h : Header) (rest : List ℕ) → StandsFor self.old.window before → IsPacket h rest packet.old
             → MatchResult (rx_opened keys.now before h rest)
-            (λ opened. (result ≡ Ok (length (spelling h ++ opened.1))) × BeginsWith (spelling h ++ opened.1) packet.new × StandsFor self.new.window (opened.0 ∷ before))
+            (λ opened. (result ≡ Ok (length (spelling h ++ opened.1)))
+            × BeginsWith (spelling h ++ opened.1) packet.new
+            × StandsFor self.new.window (opened.0 ∷ before))
             (λ fault. (result ≡ Err fault) × (packet.new ≡ packet.old) × (self.new ≡ self.old)) }
         ensures len { IfOk result (λ n. n + 16 ≡ length packet.old) }
         ensures refused { OnErr result ((packet.new ≡ packet.old) × (self.new ≡ self.old)) }
