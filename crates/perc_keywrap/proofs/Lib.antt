@@ -1,4 +1,5 @@
 mod Octets
 mod Prepared
 mod Steps
+pub mod UnwrapLaws
 pub mod WrapLaws

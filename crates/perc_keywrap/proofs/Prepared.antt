@@ -69,23 +69,31 @@ prepared_injective a b few_a few_b same =
     ∙ ap (λ (n : ℕ). take n (drop 8 (prepared b))) lengths
     ∙ prepared_plain b
 
--- registers with the parts of a plain text of n octets are what wrapping it begins with
-pub prepared_from : (s : List ℕ) (n : ℕ) → take 4 s ≡ constant → take 4 (drop 4 s) ≡ to_be_bytes w32 n → length s ≡ 8 + padded_length n → drop (8 + n) s ≡ replicate (length s - (8 + n)) 0 → prepared (take n (drop 8 s)) ≡ s
+-- Registers have the parts of what wrapping a plain text of n octets begins with.
+pub record HasParts (s : List ℕ) (n : ℕ) : Type 0 where
+  pub first : take 4 s ≡ constant
+  pub second : take 4 (drop 4 s) ≡ to_be_bytes w32 n
+  pub size : length s ≡ 8 + padded_length n
+  pub zeros : drop (8 + n) s ≡ replicate (length s - (8 + n)) 0
+
+-- then they are that
+pub prepared_from : (s : List ℕ) (n : ℕ) → HasParts s n → prepared (take n (drop 8 s)) ≡ s
 unfolding prepared
-prepared_from s n first second size zeros =
+prepared_from s n parts =
+    let size = parts.size in
     let p = take n (drop 8 s) in
     let long : length p ≡ n = length-take-le n (drop 8 s) (omega (arith, length-drop 8 s)) in
     let gap : padded_length n - n ≡ length s - (8 + n) = omega arith in
     ap (λ (m : ℕ). constant ++ to_be_bytes w32 m ++ p ++ replicate (padded_length m - m) 0) long
     ∙ ap (λ (m : ℕ). constant ++ to_be_bytes w32 n ++ p ++ replicate m 0) gap
-    ∙ ap (λ (x : List ℕ). constant ++ to_be_bytes w32 n ++ p ++ x) (sym zeros ∙ sym (drop-drop n 8 s))
+    ∙ ap (λ (x : List ℕ). constant ++ to_be_bytes w32 n ++ p ++ x) (sym parts.zeros ∙ sym (drop-drop n 8 s))
     ∙ append_assoc (constant ++ to_be_bytes w32 n) p (drop n (drop 8 s))
     ∙ ap (λ (x : List ℕ). constant ++ to_be_bytes w32 n ++ x) (take-append-drop n (drop 8 s))
     ∙ append_assoc constant (to_be_bytes w32 n) (drop 8 s)
-    ∙ ap (λ (x : List ℕ). constant ++ (x ++ drop 8 s)) (sym second)
+    ∙ ap (λ (x : List ℕ). constant ++ (x ++ drop 8 s)) (sym parts.second)
     ∙ ap (λ (x : List ℕ). constant ++ (take 4 (drop 4 s) ++ x)) (sym (drop-drop 4 4 s))
     ∙ ap (λ (x : List ℕ). constant ++ x) (take-append-drop 4 (drop 4 s))
-    ∙ ap (λ (x : List ℕ). x ++ drop 4 s) (sym first)
+    ∙ ap (λ (x : List ℕ). x ++ drop 4 s) (sym parts.first)
     ∙ take-append-drop 4 s
 
 -- ---- what the bodies make
@@ -114,11 +122,27 @@ length-written o x y z n w size_x size_y size_z width room =
 same_parts : (a a' b b' d d' e e' : List ℕ) → a ≡ a' → b ≡ b' → d ≡ d' → e ≡ e' → a ++ b ++ d ++ e ≡ a' ++ b' ++ d' ++ e'
 same_parts a a' b b' d d' e e' is_a is_b is_d is_e = cc
 
+-- The octets x, y, z and f are to be written over o for a plain text p: the third are w octets, and the last are m.
+pub record AreWritten (p o x y z f : List ℕ) (w m : ℕ) : Type 0 where
+  pub first : x ≡ constant
+  pub second : y ≡ to_be_bytes w32 (length p)
+  pub third : z ≡ p
+  pub width : w ≡ length p
+  pub gap : m ≡ length o - (8 + length p)
+  pub zeros : f ≡ replicate m 0
+  pub size : length o ≡ 8 + padded_length (length p)
+
 -- and that of the zeros
-pub prepared_made : (p o x y z f : List ℕ) (w m : ℕ) → x ≡ constant → y ≡ to_be_bytes w32 (length p) → z ≡ p → w ≡ length p → m ≡ length o - (8 + length p) → f ≡ replicate m 0 → length o ≡ 8 + padded_length (length p) → put_mid (8 + length p) m (put_mid 8 w (put_mid 4 4 (x ++ drop 4 o) y) z) f ≡ prepared p
+pub prepared_made : (p o x y z f : List ℕ) (w m : ℕ) → AreWritten p o x y z f w m → put_mid (8 + length p) m (put_mid 8 w (put_mid 4 4 (x ++ drop 4 o) y) z) f ≡ prepared p
 unfolding prepared
-prepared_made p o x y z f w m first second third width gap zeros size =
+prepared_made p o x y z f w m are =
     let n = length p in
+    let first = are.first in
+    let second = are.second in
+    let third = are.third in
+    let width = are.width in
+    let gap = are.gap in
+    let size = are.size in
     let rest = drop w (drop 4 (drop 4 o)) in
     let size_x : length x ≡ 4 = ap length first in
     let size_y : length y ≡ 4 = ap length second in
@@ -127,7 +151,7 @@ prepared_made p o x y z f w m first second third width gap zeros size =
     ap (λ (v : List ℕ). put_mid (8 + n) m v f) (written o x y z n w size_x size_y)
     ∙ write_at (x ++ y ++ z) rest f (8 + n) m (omega (arith, length-append (x ++ y) z, length-append x y))
     ∙ ap (λ (v : List ℕ). x ++ y ++ z ++ (f ++ v)) (drop_all m rest (omega (arith, length-drop w (drop 4 (drop 4 o)), length-drop 4 (drop 4 o), length-drop 4 o)))
-    ∙ same_parts x constant y (to_be_bytes w32 n) z p (f ++ []) (padding n) first second third (append-nil f ∙ zeros ∙ ap (λ (k : ℕ). replicate k 0) pad)
+    ∙ same_parts x constant y (to_be_bytes w32 n) z p (f ++ []) (padding n) first second third (append-nil f ∙ are.zeros ∙ ap (λ (k : ℕ). replicate k 0) pad)
 
 -- the numbers that stand at the head of what wrapping a plain text begins with
 pub record AreWords (s p : List ℕ) (first second : ℕ) : Type 0 where
@@ -135,14 +159,21 @@ pub record AreWords (s p : List ℕ) (first second : ℕ) : Type 0 where
   pub size : second ≡ length p
   pub whole : length s ≡ 8 + padded_length (length p)
 
-pub words_of : (s p : List ℕ) (first second : ℕ) → first < 2 ^ 32 → second < 2 ^ 32 → to_be_bytes w32 first ≡ take 4 s → to_be_bytes w32 second ≡ take 4 (drop 4 s) → length p ≤ 4096 → prepared p ≡ s → AreWords s p first second
-words_of s p first second small_first small_second is_first is_second few same = record {
+-- These are the numbers in the first 8 octets.
+pub record AreFirst (s : List ℕ) (first second : ℕ) : Type 0 where
+  pub small_first : first < 2 ^ 32
+  pub small_second : second < 2 ^ 32
+  pub is_first : to_be_bytes w32 first ≡ take 4 s
+  pub is_second : to_be_bytes w32 second ≡ take 4 (drop 4 s)
+
+pub words_of : (s p : List ℕ) (first second : ℕ) → AreFirst s first second → length p ≤ 4096 → prepared p ≡ s → AreWords s p first second
+words_of s p first second are few same = record {
   constant =
-      same_length first 0xa65959a6 small_first (omega arith)
-      (is_first ∙ sym (ap (λ (x : List ℕ). take 4 x) same) ∙ prepared_constant p);
+      same_length first 0xa65959a6 are.small_first (omega arith)
+      (are.is_first ∙ sym (ap (λ (x : List ℕ). take 4 x) same) ∙ prepared_constant p);
   size =
-      same_length second (length p) small_second (omega arith)
-      (is_second ∙ sym (ap (λ (x : List ℕ). take 4 (drop 4 x)) same) ∙ prepared_length p);
+      same_length second (length p) are.small_second (omega arith)
+      (are.is_second ∙ sym (ap (λ (x : List ℕ). take 4 (drop 4 x)) same) ∙ prepared_length p);
   whole = sym (ap length same) ∙ length-prepared p;
 }
 

@@ -5,12 +5,12 @@ use Rattle.std.specs.Int.{w64, to_be_bytes}
 use Rattle.std.specs.Int.Bits.{xor_self, xor_zero_r, xor_assoc}
 use Rattle.std.specs.List.{range_with_len}
 use Rattle.std.proofs.lemmas.Bool.{cases_lt}
-use Rattle.std.proofs.lemmas.Nat.{xor_lt}
+use Rattle.std.proofs.lemmas.Nat.{mod-mul-add, xor_lt}
 use Rattle.std.proofs.lemmas.List.{ext_get_or, get_or_append_left, get_or-append_right, get_or-drop, length-take-le, append-nil, drop_all, drop-drop, take_at, drop_at, take-append-drop}
 use Rattle.std.proofs.lemmas.List.FromFn.{get_or-map-range_with_len}
 use Rattle.perc_aes.specs.Cipher.{IsBlock, IsKey, add_round_key, aes, last_round}
 use Rattle.perc_aes.proofs.CipherLaws.{IsBlock-aes, aes_injective}
-use Rattle.perc_keywrap.specs.Wrap.{joined, put, numbered, step, after_steps}
+use Rattle.perc_keywrap.specs.Wrap.{joined, put, numbered, step, round, rounds}
 use Rattle.perc_keywrap.proofs.Octets.{AreOctets, octets-append, octets-take, octets-drop, octets-high_first, part_1, part_2, part_3, part_4, parts}
 
 -- ---- a number added to a block
@@ -96,7 +96,9 @@ unfolding put
 length-put s i b some inside size =
     let p = take (8 * i - 8) (drop 8 s) in
     let q = drop (8 * i + 8) s in
-    omega (arith, length-append (take 8 b ++ p ++ drop 8 b) q, length-append (take 8 b ++ p) (drop 8 b), length-append (take 8 b) p, length-take-le 8 b (omega arith), length-drop 8 b, middle_size s i some inside, length-drop (8 * i + 8) s)
+    let parts : length (take 8 b ++ p ++ drop 8 b ++ q) ≡ length (take 8 b) + length p + length (drop 8 b) + length q =
+    omega (arith, length-append (take 8 b ++ p ++ drop 8 b) q, length-append (take 8 b ++ p) (drop 8 b), length-append (take 8 b) p) in
+    omega (arith, parts, length-take-le 8 b (omega arith), length-drop 8 b, middle_size s i some inside, length-drop (8 * i + 8) s)
 
 pub octets-put : (s : List ℕ) (i : ℕ) (b : List ℕ) → AreOctets s → AreOctets b → AreOctets (put s i b)
 unfolding put
@@ -233,11 +235,44 @@ step_injective key s u n i t is of_s of_u some inside same =
     ∙ ap (λ (x : List ℕ). put (put u i block_u) i x) pairs
     ∙ put-joined u i block_u some in_u size_u
 
--- ---- all the steps
+-- ---- all the steps, round after round
+
+-- the registers after the steps from 1 to t
+unfoldable pub after_steps : List ℕ → ℕ → List ℕ → ℕ → List ℕ
+after_steps key n registers zero = registers
+after_steps key n registers (suc t) = step key (after_steps key n registers t) (t % n + 1) (suc t)
 
 pub steps_none : (key s : List ℕ) (n : ℕ) → after_steps key n s 0 ≡ s
 unfolding after_steps
 steps_none key s n = refl
+
+round_flat : (key s : List ℕ) (n j i : ℕ) → i ≤ n → round key n j (after_steps key n s (n * j)) i ≡ after_steps key n s (n * j + i)
+unfolding round after_steps
+round_flat key s n j zero within =
+    let none : n * j ≡ n * j + 0 = omega arith in
+    ap (λ (t : ℕ). after_steps key n s t) none
+round_flat key s n j (suc i) within =
+    let small : i < n = omega arith in
+    let turned : n * j + i ≡ j * n + i = omega arith in
+    let rest : (n * j + i) % n ≡ i = ap (λ (t : ℕ). t % n) turned ∙ mod-mul-add j n i small in
+    let place : suc i ≡ (n * j + i) % n + 1 = omega (arith, rest) in
+    let next : n * j + suc i ≡ suc (n * j + i) = omega arith in
+    ap (λ (x : List ℕ). step key x (suc i) (n * j + suc i)) (round_flat key s n j i (omega arith))
+    ∙ ap (λ (k : ℕ). step key (after_steps key n s (n * j + i)) k (n * j + suc i)) place
+    ∙ ap (λ (t : ℕ). step key (after_steps key n s (n * j + i)) ((n * j + i) % n + 1) t) next
+    ∙ ap (λ (t : ℕ). after_steps key n s t) (sym next)
+
+-- the rounds are the steps one after the other
+pub rounds_flat : (key s : List ℕ) (n j : ℕ) → rounds key n s j ≡ after_steps key n s (n * j)
+unfolding rounds
+rounds_flat key s n zero =
+    let none : 0 ≡ n * 0 = omega arith in
+    sym (steps_none key s n) ∙ ap (λ (t : ℕ). after_steps key n s t) none
+rounds_flat key s n (suc j) =
+    let next : n * j + n ≡ n * suc j = omega arith in
+    ap (λ (x : List ℕ). round key n j x n) (rounds_flat key s n j)
+    ∙ round_flat key s n j n (omega arith)
+    ∙ ap (λ (t : ℕ). after_steps key n s t) next
 
 pub steps_more : (key s : List ℕ) (n t : ℕ) → after_steps key n s (t + 1) ≡ step key (after_steps key n s t) (t % n + 1) (t + 1)
 unfolding after_steps
@@ -260,8 +295,10 @@ pub steps_injective : (key s u : List ℕ) (n t : ℕ) → IsKey key → 1 ≤ n
 unfolding after_steps
 steps_injective key s u n zero is some of_s of_u same = same
 steps_injective key s u n (suc t) is some of_s of_u same =
+    let are_s = AreRegisters-steps key s n t is some of_s in
+    let are_u = AreRegisters-steps key u n t is some of_u in
     steps_injective key s u n t is some of_s of_u
-    (step_injective key (after_steps key n s t) (after_steps key n u t) n (t % n + 1) (suc t) is (AreRegisters-steps key s n t is some of_s) (AreRegisters-steps key u n t is some of_u) (omega arith) (omega arith) same)
+    (step_injective key (after_steps key n s t) (after_steps key n u t) n (t % n + 1) (suc t) is are_s are_u (omega arith) (omega arith) same)
 
 -- Where t steps lead to s, m steps lead to the end.
 pub record LeadsTo (key s end : List ℕ) (n t m : ℕ) : Type 0 where

@@ -1,14 +1,14 @@
 -- Laws of key wrap: how long what is wrapped is, and that it tells the plain text.
-use Rattle.std.proofs.Common.{◌≡◌, ℕ, ◌+◌, ◌*◌, ◌/◌, ◌%◌, ◌<◌, ◌≤◌, ◌≢◌, List, length, get_or, take, drop, ⊎_elim, refl, sym, ◌∙◌, ap, arith, length-drop}
-use Rattle.std.proofs.lemmas.List.{length-take-le}
+use Rattle.std.proofs.Common.{◌≡◌, ℕ, cond, eqb, ◌+◌, ◌*◌, ◌/◌, ◌%◌, ◌<◌, ◌≤◌, ◌≢◌, List, ◌++◌, length, get_or, take, drop, ⊎_elim, refl, sym, ◌∙◌, ap, arith, length-drop}
+use Rattle.std.proofs.lemmas.List.{length-take-le, take_at}
 use Rattle.std.proofs.lemmas.Bool.{cases_eq}
 use Rattle.std.proofs.lemmas.Bool.Decides.{nat_tests}
 use Rattle.perc_aes.specs.Cipher.{IsBlock, IsKey, aes}
 use Rattle.perc_aes.proofs.CipherLaws.{IsBlock-aes, aes_injective}
-use Rattle.perc_keywrap.specs.Wrap.{IsWrapped, after_steps, count, prepared, wrapped, wrapped_length, wrapped_registers}
+use Rattle.perc_keywrap.specs.Wrap.{IsWrapped, count, prepared, rounds, wrapped, wrapped_length, wrapped_registers}
 use Rattle.perc_keywrap.proofs.Octets.{AreOctets, octets-take}
 use Rattle.perc_keywrap.proofs.Prepared.{AreRegisters-prepared, length-prepared, prepared_injective}
-use Rattle.perc_keywrap.proofs.Steps.{AreRegisters, AreRegisters-steps, length-aes, length-steps, steps_injective}
+use Rattle.perc_keywrap.proofs.Steps.{AreRegisters, AreRegisters-steps, after_steps, length-aes, length-steps, rounds_flat, steps_injective}
 
 -- ---- the registers, where there are two and where there are more
 
@@ -16,11 +16,17 @@ pub registers_two : (key s : List ℕ) → length s ≡ 16 → wrapped_registers
 unfolding wrapped_registers
 registers_two key s size = let one : count s ≡ 1 = omega arith in rw one refl
 
+rounds_of : (key s : List ℕ) (n : ℕ) → n ≢ 1 → cond (eqb n 1) (aes key s) (rounds key n s 6) ≡ rounds key n s 6
+rounds_of key s n more = grind (arith, nat_tests)
+
 pub registers_more : (key s : List ℕ) (n : ℕ) → length s ≡ 8 + 8 * n → n ≢ 1 → wrapped_registers key s ≡ after_steps key n s (6 * n)
 unfolding wrapped_registers
 registers_more key s n size more =
     let many : count s ≡ n = omega arith in
-    rw many (grind (arith, nat_tests))
+    let all : n * 6 ≡ 6 * n = omega arith in
+    rw many (rounds_of key s n more)
+    ∙ rounds_flat key s n 6
+    ∙ ap (λ (t : ℕ). after_steps key n s t) all
 
 IsBlock-registers : (s : List ℕ) → AreRegisters s 1 → IsBlock s
 IsBlock-registers s are = record { size = are.size; octets = are.octets.small }
@@ -95,35 +101,55 @@ one_plain_text key a b octets is of_a of_b =
     (rw many at (AreRegisters-prepared b (record { small = of_b.in_range })))
     (of_a.value ∙ sym of_b.value))
 
+-- a plain text, and what it is wrapped to at the front of other octets
+pub is_wrapped : (key plain rest : List ℕ) (n : ℕ) → 1 ≤ length plain → length plain ≤ 4096 → AreOctets plain → n ≡ wrapped_length (length plain)
+    → IsWrapped key plain (take n (wrapped key plain ++ rest))
+is_wrapped key plain rest n some few are size =
+    let whole : IsWrapped key plain (wrapped key plain) = record { some = some; few = few; in_range = are.small; value = refl } in
+    let long : length (wrapped key plain) ≡ n = length-wrapped key plain (wrapped key plain) whole ∙ sym size in
+    record {
+      some = some;
+      few = few;
+      in_range = are.small;
+      value = sym (take_at (wrapped key plain) rest n long);
+    }
+
 -- ---- what unwrapping finds
 
--- where a plain text is wrapped to the octets, the registers found are those that wrapping it begins with
-pub registers_found : (key registers octets plain : List ℕ) → IsKey key → AreOctets registers → length registers ≡ length octets → wrapped_registers key registers ≡ octets → IsWrapped key plain octets → prepared plain ≡ registers
-unfolding wrapped
-registers_found key registers octets plain is small size found of_plain =
-    registers_injective key (prepared plain) registers ((length plain + 7) / 8) is (omega (arith, of_plain.some)) (AreRegisters-prepared plain (record { small = of_plain.in_range }))
-    (record { size = size ∙ length-wrapped key plain octets of_plain; octets = small })
-    (of_plain.value ∙ sym found)
+-- These registers are wrapped to the octets.
+pub record AreFound (key registers octets : List ℕ) : Type 0 where
+  pub small : AreOctets registers
+  pub size : length registers ≡ length octets
+  pub value : wrapped_registers key registers ≡ octets
 
--- the plain text that the registers found begin with is wrapped to the octets
-pub plain_found : (key registers octets now : List ℕ) (n : ℕ) → AreOctets now → 1 ≤ n → n + 8 ≤ length registers → length registers ≤ 4104 → wrapped_registers key registers ≡ octets → prepared (take n (drop 8 registers)) ≡ registers → take n now ≡ take n (drop 8 registers) → IsWrapped key (take n now) octets
+-- where a plain text is wrapped to the octets, the registers found are those that wrapping it begins with
+pub registers_found : (key registers octets plain : List ℕ) → IsKey key → AreFound key registers octets → IsWrapped key plain octets → prepared plain ≡ registers
 unfolding wrapped
-plain_found key registers octets now n small some room few found begins same =
-    let long : length (take n now) ≡ n = ap length same ∙ length-take-le n (drop 8 registers) (omega (arith, length-drop 8 registers)) in
+registers_found key registers octets plain is found of_plain =
+    registers_injective key (prepared plain) registers ((length plain + 7) / 8) is (omega (arith, of_plain.some)) (AreRegisters-prepared plain (record { small = of_plain.in_range }))
+    (record { size = found.size ∙ length-wrapped key plain octets of_plain; octets = found.small })
+    (of_plain.value ∙ sym found.value)
+
+-- The first n of these octets are the plain text with which the registers begin.
+pub record IsMoved (registers now : List ℕ) (n : ℕ) : Type 0 where
+  pub small : AreOctets now
+  pub some : 1 ≤ n
+  pub room : n + 8 ≤ length registers
+  pub few : length registers ≤ 4104
+  pub begins : prepared (take n (drop 8 registers)) ≡ registers
+  pub same : take n now ≡ take n (drop 8 registers)
+
+-- that plain text is wrapped to the octets
+pub plain_found : (key registers octets now : List ℕ) (n : ℕ) → wrapped_registers key registers ≡ octets → IsMoved registers now n → IsWrapped key (take n now) octets
+unfolding wrapped
+plain_found key registers octets now n found moved =
+    let room = moved.room in
+    let few = moved.few in
+    let some = moved.some in
+    let long : length (take n now) ≡ n = ap length moved.same ∙ length-take-le n (drop 8 registers) (omega (arith, length-drop 8 registers)) in
     record {
       some = omega arith;
       few = omega arith;
-      in_range = (octets-take n now small).small;
-      value = ap (λ (p : List ℕ). wrapped_registers key (prepared p)) same ∙ ap (λ (s : List ℕ). wrapped_registers key s) begins ∙ found;
+      in_range = (octets-take n now moved.small).small;
+      value = ap (λ (p : List ℕ). wrapped_registers key (prepared p)) moved.same ∙ ap (λ (s : List ℕ). wrapped_registers key s) moved.begins ∙ found;
     }
-
--- what is found is the plain text, where there is one
-pub record IsFound (plain now : List ℕ) (n : ℕ) : Type 0 where
-  pub size : n ≡ length plain
-  pub value : take (length plain) now ≡ plain
-
-pub only_plain : (key plain octets now : List ℕ) (n : ℕ) → IsKey key → n ≤ length now → IsWrapped key (take n now) octets → IsWrapped key plain octets → IsFound plain now n
-only_plain key plain octets now n is room found of_plain =
-    let same : take n now ≡ plain = one_plain_text key (take n now) plain octets is found of_plain in
-    let size : n ≡ length plain = sym (length-take-le n now room) ∙ ap length same in
-    record { size = size; value = ap (λ (m : ℕ). take m now) (sym size) ∙ same }

@@ -1,1 +1,2 @@
+pub mod Unwrap
 pub mod Wrap

@@ -1,6 +1,6 @@
 -- AES key wrap with padding (RFC 5649), over AES key wrap (RFC 3394). Keys, plain texts, blocks and registers are lists
 -- of octets; a register has 8. The registers stand end to end, the first, A in the standards, before the n others.
-use Rattle.std.specs.Prelude.{◌≡◌, ℕ, zero, suc, ◌+◌, ◌-◌, ◌*◌, ◌/◌, ◌%◌, ◌<◌, ◌≤◌, if◌then◌else◌, ◌==◌, List, ◌++◌, length, map, replicate, take, drop, bit_xor, slice_index}
+use Rattle.std.specs.Prelude.{◌≡◌, ℕ, zero, suc, ◌+◌, ◌-◌, ◌*◌, ◌/◌, ◌<◌, ◌≤◌, if◌then◌else◌, ◌==◌, List, ◌++◌, length, map, replicate, take, drop, bit_xor, slice_index}
 use Rattle.std.specs.Int.{w32, w64, to_be_bytes}
 use Rattle.std.specs.List.{range_with_len}
 use Rattle.perc_aes.specs.Cipher.{aes}
@@ -24,11 +24,16 @@ numbered block t =
 unfoldable pub step : List ℕ → List ℕ → ℕ → ℕ → List ℕ
 step key registers i t = put registers i (numbered (aes key (joined registers i)) t)
 
--- The registers after the steps from 1 to t, where there are n beside the first. A round goes through those in turn,
--- from 1 to n: step n * j + i, from round 0 on, is at register i.
-unfoldable pub after_steps : List ℕ → ℕ → List ℕ → ℕ → List ℕ
-after_steps key n registers zero = registers
-after_steps key n registers (suc t) = step key (after_steps key n registers t) (t % n + 1) (suc t)
+-- The registers after the part of round j, from 0 on, that goes from register 1 to register i, where there are n beside
+-- the first: step n * j + i is at register i.
+unfoldable pub round : List ℕ → ℕ → ℕ → List ℕ → ℕ → List ℕ
+round key n j registers zero = registers
+round key n j registers (suc i) = step key (round key n j registers i) (suc i) (n * j + suc i)
+
+-- the registers after so many rounds, each from register 1 to register n
+unfoldable pub rounds : List ℕ → ℕ → List ℕ → ℕ → List ℕ
+rounds key n registers zero = registers
+rounds key n registers (suc j) = round key n j (rounds key n registers j) n
 
 -- ---- wrapping (RFC 5649 section 4.1)
 
@@ -36,10 +41,10 @@ after_steps key n registers (suc t) = step key (after_steps key n registers t) (
 abbrev pub count : List ℕ → ℕ
 count registers = length registers / 8 - 1
 
--- what the registers become: a block goes through the cipher, more registers through six rounds of steps
+-- what the registers become: a block goes through the cipher, more registers through six rounds
 unfoldable pub wrapped_registers : List ℕ → List ℕ → List ℕ
 wrapped_registers key registers =
-    if count registers == 1 then aes key registers else after_steps key (count registers) registers (6 * count registers)
+    if count registers == 1 then aes key registers else rounds key (count registers) registers 6
 
 -- how many octets the whole registers have that hold n octets
 abbrev pub padded_length : ℕ → ℕ

@@ -1,8 +1,9 @@
 //! AES key wrap with padding (RFC 5649) over AES key wrap (RFC 3394), for plain texts of 1 to 4096 octets.
 #![tactic(auto)]
 
-ghost use Rattle.std.specs.Prelude.{◌≡◌, ℕ, ◌+◌, ◌%◌, ◌<◌, ◌≤◌, ◌≢◌, ◌↔◌, ◌⊎◌, List, ◌++◌, length, take, drop, IfSome, IfNone, IfOk, SomeIff};
+ghost use Rattle.std.specs.Prelude.{◌≡◌, ◌+◌, ◌%◌, ◌<◌, ◌≤◌, ◌≢◌, ◌↔◌, ◌⊎◌, ◌++◌, length, take, drop, IfSome, IfNone, IfOk, OnSome, OnOk, SomeIff};
 ghost use Rattle.perc_aes.specs.Cipher.{IsKey};
+ghost use Rattle.perc_keywrap.specs.Unwrap.{unwrapped};
 ghost use Rattle.perc_keywrap.specs.Wrap.{IsWrapped, wrapped, wrapped_length};
 
 pub mod laws;
@@ -19,8 +20,9 @@ pub fn wrap(key: &AesKey, plain: &[u8], out: &mut [u8]) -> Option<usize>
     requires { length plain.now ≤ 4096 }
     ensures length { SomeIff result ((1 ≤ length plain.now) × (wrapped_length (length plain.now) ≤ length out.old)) (wrapped_length (length plain.now)) }
     ensures value { IfSome result (λ n. out.new ≡ wrapped key.now plain.now ++ drop n out.old) }
+    ensures wrapped { IfSome result (λ n. IsWrapped key.now plain.now (take n out.new)) }
     ensures none { IfNone result (out.new ≡ out.old) }
-    ensures key { IfSome result (λ _. IsKey key.now) }
+    ensures key { OnSome result (IsKey key.now) }
 {
     let size = 8 + plain.len().div_ceil(8) * 8;
     if plain.is_empty() || out.len() < size {
@@ -42,16 +44,17 @@ pub enum UnwrapFault {
 }
 
 /// Unwraps in place (RFC 5649 section 4.2): the plain text of the length given back goes to the front, and what follows
-/// it there is not specified, nor is any of it after a Check.
+/// it there is not specified, nor is any of it after a Check. A Length leaves the octets as they are.
 pub fn unwrap(key: &AesKey, wrapped: &mut [u8]) -> Result<usize, UnwrapFault>
-    ensures ok { IfOk result (λ n. IsWrapped key.now (take n wrapped.new) wrapped.old) }
+    ensures ok { IfOk result (λ n. unwrapped key.now wrapped.old ≡ Some (take n wrapped.new)) }
+    // So the plain text is whole: it has n octets.
     ensures within { IfOk result (λ n. n + 8 ≤ length wrapped.old) }
-    ensures only { (plain : List ℕ) → IsWrapped key.now plain wrapped.old → (result ≡ Ok (length plain)) × (take (length plain) wrapped.new ≡ plain) }
-    ensures key { IfOk result (λ _. IsKey key.now) }
+    ensures key { OnOk result (IsKey key.now) }
     ensures length { (result ≡ Err UnwrapFault.Length)
         ↔ ((length wrapped.old < 16) ⊎ ((4104 < length wrapped.old) ⊎ (length wrapped.old % 8 ≢ 0))) }
     ensures unchanged { result ≡ Err UnwrapFault.Length → wrapped.new ≡ wrapped.old }
-    ensures check { result ≡ Err UnwrapFault.Check → (plain : List ℕ) → IsWrapped key.now plain wrapped.old → ⊥ }
+    ensures check { (result ≡ Err UnwrapFault.Check)
+        ↔ ((16 ≤ length wrapped.old) × (length wrapped.old ≤ 4104) × (length wrapped.old % 8 ≡ 0) × (unwrapped key.now wrapped.old ≡ None)) }
 {
     let size = wrapped.len();
     if size < 16 || size > 4104 || size % 8 != 0 {

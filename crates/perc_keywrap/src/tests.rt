@@ -1,7 +1,9 @@
 // Key wrap against outside vectors, altered octets and lengths.
-ghost use Rattle.std.specs.Prelude.{◌<◌};
+ghost use Rattle.std.specs.Prelude.{◌≤◌, vec_len};
 
 use super::*;
+use std::alloc::Global;
+use std::process::Abort;
 
 // Key, plain text and what it is wrapped to.
 const WRAPPED: [(&str, &str, &str); 24] = [
@@ -215,60 +217,41 @@ const WRONG: [(&str, &str); 21] = [
     ),
 ];
 
-fn digit(text: u8) -> u8
-    ensures { result < 16 }
+// The octets that a text spells.
+fn octets(rt: &impl Abort, alloc: Global, text: &str) -> Vec<u8>
+    ensures { vec_len result ≤ 80 }
 {
-    match text {
-        b'0'..=b'9' => text - b'0',
-        b'a'..=b'f' => text - b'a' + 10,
-        _ => 0,
-    }
-}
-
-// The octets of a text, with zeros behind.
-fn octets<const N: usize>(hex: &str) -> [u8; N] {
-    let hex = hex.as_bytes();
-    let mut octets = [0; N];
-    for i in 0..N {
-        if 2 * i + 1 < hex.len() {
-            octets[i] = 16 * digit(hex[2 * i]) + digit(hex[2 * i + 1]);
-        }
-    }
+    let octets = hex::decode(alloc, text).expect(rt, "the text is hexadecimal");
+    assert!(rt; octets.len() <= 80, "{text}");
     octets
 }
 
-fn size(hex: &str) -> usize
-    ensures { result < 81 }
-{
-    (hex.len() / 2).min(80)
-}
-
-fn key_of(hex: &str) -> Option<AesKey> {
-    AesKey::new(&octets::<32>(hex)[..size(hex).min(32)])
+fn key_of(rt: &impl Abort, alloc: Global, text: &str) -> AesKey {
+    AesKey::new(&octets(rt, alloc, text)).expect(rt, "the length is one of a key")
 }
 
 #[test]
 fn both_directions(rt: HostRuntime) {
     for (key, plain, wrapped) in WRAPPED {
-        let key = key_of(key).expect(&rt, "the length is one of a key");
-        let plain = &octets::<80>(plain)[..size(plain)];
+        let key = key_of(&rt, rt.alloc(), key);
+        let plain = octets(&rt, rt.alloc(), plain);
+        let wrapped = octets(&rt, rt.alloc(), wrapped);
         let mut out = [7; 80];
-        assert_eq!(rt; wrap(&key, plain, &mut out), Some(size(wrapped)));
-        let wrapped = &octets::<80>(wrapped)[..size(wrapped)];
-        assert!(rt; &out[..wrapped.len()] == wrapped);
-        assert!(rt; out[wrapped.len()..].iter().all(|octet| *octet == 7));
-        assert_eq!(rt; unwrap(&key, &mut out[..wrapped.len()]), Ok(plain.len()));
-        assert!(rt; &out[..plain.len()] == plain);
+        assert_eq!(rt; wrap(&key, &plain, &mut out), Some(wrapped.len()));
+        assert!(rt; out.starts_with(&wrapped));
+        assert!(rt; out.iter().skip(wrapped.len()).all(|octet| *octet == 7));
+        let mut octets = wrapped;
+        assert_eq!(rt; unwrap(&key, &mut octets), Ok(plain.len()));
+        assert!(rt; octets.starts_with(&plain));
     }
 }
 
 #[test]
 fn nothing_wrapped(rt: HostRuntime) {
     for (key, wrapped) in WRONG {
-        let key = key_of(key).expect(&rt, "the length is one of a key");
-        let mut out = octets::<80>(wrapped);
+        let mut out = octets(&rt, rt.alloc(), wrapped);
         assert_eq!(rt;
-            unwrap(&key, &mut out[..size(wrapped)]),
+            unwrap(&key_of(&rt, rt.alloc(), key), &mut out),
             Err(UnwrapFault::Check)
         );
     }
@@ -277,15 +260,17 @@ fn nothing_wrapped(rt: HostRuntime) {
 #[test]
 fn a_bit_changed(rt: HostRuntime) {
     let (key, _, wrapped) = WRAPPED[10];
-    let key = key_of(key).expect(&rt, "the length is one of a key");
-    for place in 0..40 {
+    let key = key_of(&rt, rt.alloc(), key);
+    for k in 0..octets(&rt, rt.alloc(), wrapped).len() {
         for bit in 0..8u32 {
-            let mut out = octets::<40>(wrapped);
-            out[place] ^= 1 << bit;
+            let mut out = octets(&rt, rt.alloc(), wrapped);
+            if let Some(octet) = out.get_mut(k) {
+                *octet ^= 1 << bit;
+            }
             assert_eq!(rt;
                 unwrap(&key, &mut out),
                 Err(UnwrapFault::Check),
-                "bit {bit} of octet {place}"
+                "bit {bit} of octet {k}"
             );
         }
     }

@@ -22,6 +22,12 @@ returns c =
     let left : ℕ = length begun - end in
     let gap : left ≡ length o - end = ap (λ (k : ℕ). k - end) size in
     let whole : length (take left (drop end begun)) ≡ left = length-take-le left (drop end begun) (omega (arith, length-drop end begun)) in
-    prepared_made p o x y z c.fill.new.self (end - 8) left first second third width gap
-    (c.fill.ensures.after (λ y same. same) ∙ ap (λ (k : ℕ). replicate k 0) whole)
-    c.requires.size
+    prepared_made p o x y z c.fill.new.self (end - 8) left (record {
+      first = first;
+      second = second;
+      third = third;
+      width = width;
+      gap = gap;
+      zeros = c.fill.ensures.after (λ y same. same) ∙ ap (λ (k : ℕ). replicate k 0) whole;
+      size = c.requires.size;
+    })

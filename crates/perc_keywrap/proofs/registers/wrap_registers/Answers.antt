@@ -1,6 +1,6 @@
 use Rattle.std.proofs.Common.{◌≡◌, ◌≢◌, ℕ, ◌+◌, ◌*◌, ◌%◌, List, refl, sym, ◌∙◌, ap, arith}
-use Rattle.perc_keywrap.specs.Wrap.{after_steps, count, step}
-use Rattle.perc_keywrap.proofs.Steps.{steps_none, steps_more}
+use Rattle.perc_keywrap.specs.Wrap.{count, step}
+use Rattle.perc_keywrap.proofs.Steps.{after_steps, steps_none, steps_more}
 use Rattle.perc_keywrap.proofs.WrapLaws.{registers_two, registers_more}
 use Rattle.perc_keywrap.proofs.registers.wrap_registers.Goals as goal
 

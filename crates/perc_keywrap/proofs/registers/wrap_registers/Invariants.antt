@@ -1,6 +1,7 @@
 use Rattle.std.proofs.Common.{◌≡◌, ◌<◌, length}
 use Rattle.perc_aes.specs.Cipher.{IsKey}
-use Rattle.perc_keywrap.specs.Wrap.{after_steps, count}
+use Rattle.perc_keywrap.specs.Wrap.{count}
+use Rattle.perc_keywrap.proofs.Steps.{after_steps}
 use Rattle.perc_keywrap.proofs.registers.wrap_registers.Given as goal
 
 abbrev pub invariant-loop-step : goal.invariant-loop-step
