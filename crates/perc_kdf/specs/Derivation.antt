@@ -1,8 +1,8 @@
 -- Key derivation of SRTP (RFC 3711 section 4.3) with a derivation rate of 0, in counter mode of AES, for keys of 128 bits
 -- and of 256 (RFC 6188), with a salt of 96 bits (RFC 7714 section 11). Keys, salts and blocks are lists of octets.
-use Rattle.std.specs.Prelude.{◌≡◌, ℕ, ◌/◌, ◌%◌, ◌⊎◌, List, [], ◌∷◌, ◌++◌, length, map, bit_xor, slice_index, slice_set}
+use Rattle.std.specs.Prelude.{◌≡◌, ℕ, ◌/◌, ◌%◌, ◌<◌, ◌⊎◌, List, [], ◌∷◌, ◌++◌, length, map, bit_xor, slice_index, slice_set}
 use Rattle.std.specs.List.{range_with_len}
-use Rattle.perc_aes.specs.Cipher.{aes}
+use Rattle.perc_aes.specs.Cipher.{IsKey, aes}
 use Rattle.perc_kdf.specs.declared.Kind.{Kind}
 use Rattle.perc_kdf.specs.declared.Kind.TheVariants.{Srtp, Srtcp}
 
@@ -14,6 +14,13 @@ pub record KeyAndSalt : Type 0 where
 -- a master key has 16 or 32 octets
 abbrev pub IsMasterLength : ℕ → Type 0
 IsMasterLength n = (n ≡ 16) ⊎ (n ≡ 32)
+
+-- This is a master key with its salt: 16 or 32 octets, and 12.
+pub record IsMaster (master : KeyAndSalt) : Type 0 where
+  pub key_size : IsMasterLength (length master.key)
+  pub key_octets : (k : ℕ) → slice_index master.key k < 256
+  pub salt_size : length master.salt ≡ 12
+  pub salt_octets : (k : ℕ) → slice_index master.salt k < 256
 
 -- what the cipher is put to for block i of the stream: the salt of 14 octets with the label added to its octet 7,
 -- and the number of the block in two octets, the high one first
@@ -48,3 +55,10 @@ session_keys master kind = record {
   key = derived master.key (padded master.salt) (key_label kind) (length master.key);
   salt = derived master.key (padded master.salt) (salt_label kind) 12;
 }
+
+-- These are the keys of a session: a cipher key of 16 or 32 octets, and a salt of 12.
+pub record IsSession (keys : KeyAndSalt) : Type 0 where
+  pub key : IsKey keys.key
+  pub size : IsMasterLength (length keys.key)
+  pub salt : length keys.salt ≡ 12
+  pub salt_octets : (k : ℕ) → slice_index keys.salt k < 256
