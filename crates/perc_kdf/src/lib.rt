@@ -114,11 +114,8 @@ impl Master {
 
     /// The salt that it was made of.
     pub fn salt(&self) -> &[u8; 12]
-        ensures value { result.now ≡ self.now.salt }
-        ensures length { length self.now.salt ≡ 12 }
-        ensures octets { (k : ℕ) → slice_index self.now.salt k < 256 }
+        ensures { result.now ≡ self.now.salt }
     {
-        known(&self.salt);
         &self.salt
     }
 }
@@ -187,7 +184,7 @@ pub fn session(master: &Master, kind: Kind) -> SessionKeys
 {
     let cipher = AesKey::new(master.key()).unwrap();
     let mut padded = [0; 14];
-    padded[..12].copy_from_slice(master.salt());
+    padded[..12].copy_from_slice(known(master.salt()));
     let (key_label, salt_label) = match kind {
         Kind::Srtp => (0, 2),
         Kind::Srtcp => (3, 5),
