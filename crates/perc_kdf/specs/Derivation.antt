@@ -15,6 +15,13 @@ pub record KeyAndSalt : Type 0 where
 abbrev pub IsMasterLength : ℕ → Type 0
 IsMasterLength n = (n ≡ 16) ⊎ (n ≡ 32)
 
+-- This is a master key with its salt: 16 or 32 octets, and 12.
+pub record IsMaster (master : KeyAndSalt) : Type 0 where
+  pub key_size : IsMasterLength (length master.key)
+  pub key_octets : (k : ℕ) → slice_index master.key k < 256
+  pub salt_size : length master.salt ≡ 12
+  pub salt_octets : (k : ℕ) → slice_index master.salt k < 256
+
 -- what the cipher is put to for block i of the stream: the salt of 14 octets with the label added to its octet 7,
 -- and the number of the block in two octets, the high one first
 abbrev pub counter_block : List ℕ → ℕ → ℕ → List ℕ

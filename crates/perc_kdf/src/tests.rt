@@ -1,7 +1,6 @@
 // Derivation against outside vectors, and the lengths of master keys.
-ghost use Rattle.std.specs.Prelude.{◌<◌};
-
 use super::*;
+use std::process::Abort;
 
 // Key, salt, label and what is derived.
 const STREAMS: [(&str, &str, u8, &str); 20] = [
@@ -254,60 +253,54 @@ const SRTCP: [(&str, &str, &str, &str); 10] = [
     ),
 ];
 
-fn digit(text: u8) -> u8
-    ensures { result < 16 }
-{
-    match text {
-        b'0'..=b'9' => text - b'0',
-        b'a'..=b'f' => text - b'a' + 10,
-        _ => 0,
-    }
-}
-
 // The octets of a text, with zeros behind.
-fn octets<const N: usize>(hex: &str) -> [u8; N] {
-    let hex = hex.as_bytes();
+fn octets<const N: usize>(rt: &impl Abort, text: &str) -> [u8; N] {
+    let len = text.len() / 2;
+    assert!(rt; len <= N, "{text} has at most {N} octets");
     let mut octets = [0; N];
-    for i in 0..N {
-        if 2 * i + 1 < hex.len() {
-            octets[i] = 16 * digit(hex[2 * i]) + digit(hex[2 * i + 1]);
-        }
-    }
+    hex::decode_to_slice(text, &mut octets[..len]).expect(rt, "hexadecimal digits");
     octets
 }
 
-fn size(hex: &str) -> usize
-    ensures { result < 65 }
-{
-    (hex.len() / 2).min(64)
+fn check_stream(rt: &impl Abort, row: &(&str, &str, u8, &str)) {
+    let (key, salt, label, derived) = *row;
+    let key = AesKey::new(&octets::<16>(rt, key)).expect(rt, "a key of 16 octets");
+    let mut out = [0; 64];
+    let len = derived.len() / 2;
+    assert!(rt; len <= 64);
+    derive(&key, &octets::<14>(rt, salt), label, &mut out[..len]);
+    assert_eq!(rt; out, octets::<64>(rt, derived));
 }
 
 #[test]
 fn streams(rt: HostRuntime) {
-    for (key, salt, label, derived) in STREAMS {
-        let key = AesKey::new(&octets::<16>(key)).expect(&rt, "a key of 16 octets");
-        let mut out = [0; 64];
-        derive(&key, &octets::<14>(salt), label, &mut out[..size(derived)]);
-        assert_eq!(rt; out, octets::<64>(derived));
+    for row in &STREAMS {
+        check_stream(&rt, row);
     }
 }
 
-fn master_of(key: &str, salt: &str) -> Option<Master> {
-    Master::new(&octets::<32>(key)[..size(key).min(32)], &octets::<12>(salt))
+fn check_session(rt: &impl Abort, kind: Kind, row: &(&str, &str, &str, &str)) {
+    let (key, salt, session_key, session_salt) = *row;
+    let len = key.len() / 2;
+    assert!(rt; len <= 32);
+    let key = octets::<32>(rt, key);
+    let salt = octets::<12>(rt, salt);
+    let master = Master::new(&key[..len], &salt).expect(rt, "a length of a master key");
+    assert!(rt; master.key() == &key[..len]);
+    assert_eq!(rt; *master.salt(), salt);
+    let keys = session(&master, kind);
+    assert_eq!(rt; keys.len, len);
+    assert_eq!(rt; keys.key, octets::<32>(rt, session_key));
+    assert_eq!(rt; keys.salt, octets::<12>(rt, session_salt));
 }
 
 #[test]
 fn sessions(rt: HostRuntime) {
-    for (kind, rows) in [(Kind::Srtp, SRTP), (Kind::Srtcp, SRTCP)] {
-        for (key, salt, session_key, session_salt) in rows {
-            let master = master_of(key, salt).expect(&rt, "a length of a master key");
-            assert!(rt; master.key() == &octets::<32>(key)[..size(key).min(32)]);
-            assert_eq!(rt; *master.salt(), octets::<12>(salt));
-            let keys = session(&master, kind);
-            assert_eq!(rt; keys.len, size(session_key));
-            assert_eq!(rt; keys.key, octets::<32>(session_key));
-            assert_eq!(rt; keys.salt, octets::<12>(session_salt));
-        }
+    for row in &SRTP {
+        check_session(&rt, Kind::Srtp, row);
+    }
+    for row in &SRTCP {
+        check_session(&rt, Kind::Srtcp, row);
     }
 }
 
@@ -320,9 +313,25 @@ fn masters(rt: HostRuntime) {
             "{len} octets"
         );
     }
-    let short = Master::new(&[0; 16], &[0; 12]);
-    assert!(rt; short == Master::new(&[0; 16], &[0; 12]));
-    assert!(rt; short != Master::new(&[0; 32], &[0; 12]));
-    assert!(rt; short != Master::new(&[1; 16], &[0; 12]));
-    assert!(rt; short != Master::new(&[0; 16], &[1; 12]));
+}
+
+// In rising order: by the key, of which one that begins another is the lower, and then by the salt.
+const RISING: [(u8, usize, u8); 5] = [(0, 16, 0), (0, 16, 1), (0, 32, 0), (1, 16, 0), (1, 32, 0)];
+
+fn master_of(row: (u8, usize, u8)) -> Option<Master> {
+    let (key, len, salt) = row;
+    Master::new(&[key; 32][..len.min(32)], &[salt; 12])
+}
+
+#[test]
+fn order(rt: HostRuntime) {
+    for (i, a) in RISING.iter().enumerate() {
+        for (k, b) in RISING.iter().enumerate() {
+            assert!(rt;
+                master_of(*a).cmp(&master_of(*b)) == i.cmp(&k),
+                "{i} beside {k}"
+            );
+            assert_eq!(rt; master_of(*a) == master_of(*b), i == k, "{i} beside {k}");
+        }
+    }
 }

@@ -8,5 +8,6 @@ invariant-loop-k l = record {
   size : length l.out ≡ length l.fn.out;
   width : length l.block ≡ 16;
   done : (j : ℕ) → j < l.k → get_or l.out j 0 ≡ stream_octet l.key l.salt l.label j;
+  first : l.k ≡ 0 → l.block ≡ aes l.key (counter_block l.salt l.label 0);
   current : 0 < l.k % 16 → l.block ≡ aes l.key (counter_block l.salt l.label (l.k / 16));
 }
