@@ -1,0 +1,3 @@
+pub mod Receiving
+pub mod Kept
+pub mod History
