@@ -1,9 +1,14 @@
 -- What is kept stands for what is held, context by context.
-use Rattle.std.proofs.Common.{◌≡◌, ℕ, ◌+◌, ◌-◌, ◌<◌, ◌≤◌, Bool, true, false, cond, not, List, [], ◌∷◌, ◌++◌, length, filter, Option, Some, None, refl, ap, ◌∙◌, sym, arith, rules}
+use Rattle.std.proofs.Common.{◌≡◌, ℕ, ◌+◌, ◌-◌, ◌<◌, ◌≤◌, suc, Bool, true, false, cond, not, nat_lt, reverse, List, [], ◌∷◌, ◌++◌, length, filter, Option, Some, None, refl, ap, ◌∙◌, sym, arith, rules}
+use Rattle.std.specs.Prelude.{◌==◌, ◌&&◌, count_by, position}
+use Rattle.std.specs.List.{position_or_len}
+use Rattle.std.specs.Str.{bytes_eq}
+use Rattle.std.proofs.lemmas.List.{reverse-append}
+use Rattle.std.proofs.lemmas.List.Sums.{length-filter}
 use Rattle.std.proofs.lemmas.List.Filters.{length-filter_both}
 use Rattle.std.proofs.lemmas.List.Kept.{AllPairs-filter}
-use Rattle.perc_contexts.specs.Receiving.{Context, Receiving, is_live, still_live, renewed}
-use Rattle.perc_contexts.specs.Kept.{KeptContext, Kept, IsOf, AreOf, StandsFor, SameKept, IsWellKept}
+use Rattle.perc_contexts.specs.Receiving.{is_of, Context, Receiving, is_live, still_live, renewed}
+use Rattle.perc_contexts.specs.Kept.{is_kept_of, KeptContext, Kept, IsOf, AreOf, StandsFor, SameKept, IsWellKept}
 
 -- ---- what stays of the contexts
 
@@ -23,14 +28,66 @@ are_of-cond false false k c kept contexts same one rest = rest
 are_of-cond true false k c kept contexts same one rest = absurd (cc)
 are_of-cond false true k c kept contexts same one rest = absurd (cc)
 
-pub are_of-filter : (live : List ℕ) (kept : List KeptContext) (contexts : List Context) → AreOf kept contexts
-    → AreOf (filter (λ k. is_live live k.spi) kept) (filter (λ c. is_live live c.spi) contexts)
-are_of-filter live [] [] are = tt
-are_of-filter live [] (c ∷ contexts) are = absurd are
-are_of-filter live (k ∷ kept) [] are = absurd are
-are_of-filter live (k ∷ kept) (c ∷ contexts) are =
-    are_of-cond (is_live live k.spi) (is_live live c.spi) k c _ _ (ap (λ spi. is_live live spi) are.0.spi) are.0
-    (are_of-filter live kept contexts are.1)
+-- Two tests agree where what is kept stands for what is held.
+abbrev pub Agree : (KeptContext → Bool) → (Context → Bool) → Type 0
+Agree p q = (k : KeptContext) (c : Context) → IsOf k c → p k ≡ q c
+
+pub are_of-filter : (p : KeptContext → Bool) (q : Context → Bool) → Agree p q → (kept : List KeptContext) (contexts : List Context)
+    → AreOf kept contexts → AreOf (filter p kept) (filter q contexts)
+are_of-filter p q agree [] [] are = tt
+are_of-filter p q agree [] (c ∷ contexts) are = absurd are
+are_of-filter p q agree (k ∷ kept) [] are = absurd are
+are_of-filter p q agree (k ∷ kept) (c ∷ contexts) are =
+    are_of-cond (p k) (q c) k c _ _ (agree k c are.0) are.0 (are_of-filter p q agree kept contexts are.1)
+
+pub are_of-length : (kept : List KeptContext) (contexts : List Context) → AreOf kept contexts → length kept ≡ length contexts
+are_of-length [] [] are = refl
+are_of-length [] (c ∷ contexts) are = absurd are
+are_of-length (k ∷ kept) [] are = absurd are
+are_of-length (k ∷ kept) (c ∷ contexts) are = ap (λ n. suc n) (are_of-length kept contexts are.1)
+
+-- As many pass, and the first that does stands at the same place.
+pub are_of-count : (p : KeptContext → Bool) (q : Context → Bool) → Agree p q → (kept : List KeptContext) (contexts : List Context)
+    → AreOf kept contexts → count_by p kept ≡ count_by q contexts
+are_of-count p q agree kept contexts are =
+    sym (length-filter p kept) ∙ (are_of-length _ _ (are_of-filter p q agree kept contexts are) ∙ length-filter q contexts)
+
+same_place : (p : KeptContext → Bool) (q : Context → Bool) → Agree p q → (kept : List KeptContext) (contexts : List Context)
+    → AreOf kept contexts → position_or_len p kept ≡ position_or_len q contexts
+same_place p q agree [] [] are = refl
+same_place p q agree [] (c ∷ contexts) are = absurd are
+same_place p q agree (k ∷ kept) [] are = absurd are
+same_place p q agree (k ∷ kept) (c ∷ contexts) are =
+    let test = agree k c are.0 in let rest = same_place p q agree kept contexts are.1 in
+    λ i. cond (not (test i)) (1 + rest i) 0
+
+pub are_of-position : (p : KeptContext → Bool) (q : Context → Bool) → Agree p q → (kept : List KeptContext) (contexts : List Context)
+    → AreOf kept contexts → position p kept ≡ position q contexts
+are_of-position p q agree kept contexts are =
+    let at = same_place p q agree kept contexts are in let long = are_of-length kept contexts are in
+    λ i. cond (nat_lt (at i) (long i)) (Some (at i)) None
+
+pub are_of-append : (kept more_kept : List KeptContext) (contexts more : List Context) → AreOf kept contexts → AreOf more_kept more
+    → AreOf (kept ++ more_kept) (contexts ++ more)
+are_of-append [] more_kept [] more are rest = rest
+are_of-append [] more_kept (c ∷ contexts) more are rest = absurd are
+are_of-append (k ∷ kept) more_kept [] more are rest = absurd are
+are_of-append (k ∷ kept) more_kept (c ∷ contexts) more are rest = (are.0, are_of-append kept more_kept contexts more are.1 rest)
+
+pub are_of-reverse : (kept : List KeptContext) (contexts : List Context) → AreOf kept contexts → AreOf (reverse kept) (reverse contexts)
+are_of-reverse [] [] are = tt
+are_of-reverse [] (c ∷ contexts) are = absurd are
+are_of-reverse (k ∷ kept) [] are = absurd are
+are_of-reverse (k ∷ kept) (c ∷ contexts) are =
+    rw (reverse-append (k ∷ []) kept, reverse-append (c ∷ []) contexts)
+    (are_of-append (reverse kept) (k ∷ []) (reverse contexts) (c ∷ []) (are_of-reverse kept contexts are.1) (are.0, tt))
+
+-- the tests by which contexts are looked for
+pub agree_of : (spi ssrc : ℕ) (key : List ℕ) → Agree (is_kept_of spi ssrc key) (is_of spi ssrc key)
+agree_of spi ssrc key k c one = λ i. (one.spi i == spi) && (one.ssrc i == ssrc) && bytes_eq (one.key i) key
+
+pub agree_under : (spi ssrc : ℕ) → Agree (λ k. k.spi == spi && k.ssrc == ssrc) (λ c. c.spi == spi && c.ssrc == ssrc)
+agree_under spi ssrc k c one = λ i. (one.spi i == spi) && (one.ssrc i == ssrc)
 
 -- What is kept once an SPI was added stands for what is held then.
 pub renewed_stands : (kept : Kept) (held : Receiving) (spi : ℕ) (live : List ℕ) (contexts : List KeptContext)
@@ -38,5 +95,5 @@ pub renewed_stands : (kept : Kept) (held : Receiving) (spi : ℕ) (live : List �
     → StandsFor (record { live = live; contexts = contexts }) (renewed spi held)
 renewed_stands kept held spi live contexts stands live_is contexts_is = rw (live_is, contexts_is) record {
   live = ap (λ l. still_live l ++ spi ∷ []) stands.live;
-  contexts = rw stands.live (are_of-filter (still_live held.live) kept.contexts held.contexts stands.contexts);
+  contexts = rw stands.live (are_of-filter _ _ (λ k c one. ap (λ spi. is_live (still_live held.live) spi) one.spi) kept.contexts held.contexts stands.contexts);
 }

@@ -6,13 +6,15 @@ ghost use Rattle.std.specs.Prelude.{◌≡◌, ◌<◌, length, slice_get, IfOk,
 ghost use Rattle.arrayvec.specs.ArrayVec.{array_vec_len};
 ghost use Rattle.perc_contexts.specs.Receiving as spec;
 ghost use Rattle.perc_contexts.specs.Receiving.{Receiving, Attempt, committed, freshness_of, is_live, nothing_held, renewed, retired, spi_answer, still_live};
-ghost use Rattle.perc_contexts.specs.Kept.{StandsFor};
+ghost use Rattle.perc_contexts.specs.Kept.{IsAnswer, IsCarried, StandsFor, told};
 
 mod installed;
+mod places;
 
 use arrayvec::ArrayVec;
 use installed::{Installed, keep_live};
 use perc_base::Memory;
+use places::{try_carried, try_newest};
 use std::alloc::Global;
 use std::marker::Model;
 
@@ -129,6 +131,22 @@ impl Contexts {
         ensures { result ≡ is_live self.now.live spi }
     {
         self.live.as_slice().contains(&spi)
+    }
+
+    /// The tries of a packet with this SSRC and this sequence number: first under the key that it carries, at the carried
+    /// roll-over counter, then under the four contexts of its SSRC that were installed last, the newest first, over all live
+    /// SPIs together, each at the index nearest to its highest; one of them without such an index is left out. Refused where
+    /// a key is carried that has no context, and there is no room for one.
+    pub fn tries(&self, ssrc: u32, seq: u16, carried: Option<&CarriedKey<'_>>) -> Result<TryList, KeyLimit>
+        requires { IsCarried self.now.live (told carried) }
+        ensures { (held : Receiving) → StandsFor self.now held → IsAnswer held.contexts ssrc (told carried.entry) (spec.tries held.contexts ssrc seq (told carried.entry)) result }
+    {
+        let mut list = TryList::new();
+        if let Some(carried) = carried {
+            list.push(try_carried(self.contexts.as_slice(), ssrc, seq, carried)?);
+        }
+        try_newest(self.contexts.as_slice(), ssrc, seq, &mut list);
+        Ok(list)
     }
 }
 
