@@ -1,10 +1,10 @@
 -- The nearest index and the places that the code finds, and what they stand for.
-use Rattle.std.proofs.Common.{◌≡◌, ℕ, ◌+◌, ◌-◌, ◌*◌, ◌%◌, ◌^◌, ◌<◌, ◌≤◌, Bool, true, false, cond, List, [], ◌∷◌, ◌++◌, length, Option, Some, None, IfSome, IfNone, refl, ap, ◌∙◌, sym, arith, rules}
+use Rattle.std.proofs.Common.{◌≡◌, ℕ, ◌+◌, ◌-◌, ◌*◌, ◌%◌, ◌^◌, ◌<◌, ◌≤◌, Bool, true, false, cond, List, [], ◌∷◌, ◌++◌, length, Option, Some, None, IfSome, IfNone, inl, inr, refl, ap, ◌∙◌, sym, arith, rules}
 use Rattle.std.proofs.lemmas.Option.{same_Some}
 use Rattle.std.specs.Prelude.{find, position, slice_get, MatchOption}
 use Rattle.std.specs.List.{position_or_len}
 use Rattle.std.proofs.lemmas.List.Folds.{find_at}
-use Rattle.std.proofs.lemmas.Option.{slice_get_past}
+use Rattle.std.proofs.lemmas.Option.{slice_get_past, slice_get_cases}
 use Rattle.std.proofs.lemmas.Bool.Decides.{nat_tests}
 use Rattle.perc_contexts.specs.Kept.{KeptContext}
 use Rattle.perc_contexts.specs.Places.{nearest_tries}
@@ -30,8 +30,12 @@ nearest_tries-none ssrc seq (k ∷ kept) = refl
 
 -- The first that passes a test stands at the first place that does.
 pub find_by : {X : Type 0} (test : X → Bool) (xs : List X) (o : Option ℕ) → position test xs ≡ o
-    → MatchOption o (find test xs ≡ None) (λ place. find test xs ≡ slice_get xs place)
+    → MatchOption o (find test xs ≡ None) (λ place. (x : X) × (find test xs ≡ Some x) × (slice_get xs place ≡ Some x))
 find_by test xs None e = find_at test xs ∙ slice_get_past xs _ (grind (arith, nat_tests))
 find_by test xs (Some place) e =
     let same : position_or_len test xs ≡ place = grind (arith, nat_tests) in
-    find_at test xs ∙ ap (λ n. slice_get xs n) same
+    let within : place < length xs = grind (arith, nat_tests) in
+    elim (slice_get_cases xs place).1 [
+      | inl h ↦ (h.0, find_at test xs ∙ (ap (λ n. slice_get xs n) same ∙ h.2), h.2)
+      | inr h ↦ absurd (omega (arith, h.0))
+    ]

@@ -1,10 +1,11 @@
 // A context as it is held.
-ghost use Rattle.std.specs.Prelude.{◌≡◌, ◌^◌, ◌<◌, ◌==◌, ◌&&◌, filter, vec_capacity, IfSome};
+ghost use Rattle.std.specs.Prelude.{◌≡◌, ◌^◌, ◌<◌, ◌==◌, ◌&&◌, ◌⊎◌, [], length, filter, vec_capacity};
 ghost use Rattle.perc_window.specs.Index.{nearest};
-ghost use Rattle.perc_contexts.specs.Receiving.{is_live};
-ghost use Rattle.perc_contexts.specs.Kept.{is_kept_of};
+ghost use Rattle.perc_window.specs.Replay.{freshness, freshness_at};
+ghost use Rattle.perc_contexts.specs.Receiving.{Context, is_live, with_index};
+ghost use Rattle.perc_contexts.specs.Kept.{IsOf, is_kept_of};
 
-use perc_window::Window;
+use perc_window::{Freshness, Window};
 use std::marker::Model;
 
 /// A key of a sender under an SPI, and the indices that were accepted under it.
@@ -31,6 +32,37 @@ impl Model for Installed {
 }
 
 impl Installed {
+    /// A new context, under which nothing was accepted.
+    pub(super) fn new(spi: u16, ssrc: u32, key: &[u8]) -> Installed
+        requires { (length key.now ≡ 16) ⊎ (length key.now ≡ 32) }
+        ensures { IsOf result (record { spi = spi; ssrc = ssrc; key = key.now; accepted = [] }) }
+    {
+        let mut octets = [0; 32];
+        octets[..key.len()].copy_from_slice(key);
+        Installed {
+            spi,
+            ssrc,
+            len: key.len(),
+            octets,
+            window: Window::new(),
+        }
+    }
+
+    /// The SPI.
+    pub(super) fn spi(&self) -> u16
+        ensures { result ≡ self.now.spi }
+    {
+        self.spi
+    }
+
+    /// The key.
+    pub(super) fn key(&self) -> &[u8]
+        ensures value { result.now ≡ self.now.key }
+        ensures length { (length result.now ≡ 16) ⊎ (length result.now ≡ 32) }
+    {
+        &self.octets[..self.len]
+    }
+
     /// The SSRC of its sender.
     pub(super) fn ssrc(&self) -> u32
         ensures { result ≡ self.now.ssrc }
@@ -49,15 +81,30 @@ impl Installed {
     pub(super) fn is_of(&self, spi: u16, ssrc: u32, key: &[u8]) -> bool
         ensures { result ≡ is_kept_of spi ssrc key.now self.now }
     {
-        self.is_under(spi, ssrc) && &self.octets[..self.len] == key
+        self.is_under(spi, ssrc) && self.key() == key
     }
 
     /// The index of a packet with this sequence number.
     pub(super) fn nearest(&self, seq: u16) -> Option<u64>
-        ensures value { result ≡ nearest self.now.window.highest seq }
-        ensures in_range { IfSome result (λ index. index < 2 ^ 48) }
+        ensures { result ≡ nearest self.now.window.highest seq }
     {
         self.window.nearest(seq)
+    }
+
+    /// What its window says to an index.
+    pub(super) fn fresh(&self, index: u64) -> Freshness
+        ensures { (c : Context) → IsOf self.now c → result ≡ freshness c.accepted index }
+    {
+        self.window.fresh(index)
+    }
+
+    /// Accepts an index.
+    pub(super) fn accept(&mut self, index: u64)
+        requires fresh { freshness_at self.old.window index ≡ Freshness.Fresh }
+        requires in_range { index < 2 ^ 48 }
+        ensures { (c : Context) → IsOf self.old c → IsOf self.new (with_index index c) }
+    {
+        self.window.mark(index);
     }
 }
 

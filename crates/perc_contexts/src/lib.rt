@@ -2,11 +2,11 @@
 //! tried under (RFC 8870 section 4.1, RFC 3711 section 3.3). No cryptography is done here.
 #![tactic(auto)]
 
-ghost use Rattle.std.specs.Prelude.{◌≡◌, ◌<◌, length, slice_get, IfOk, IfSome, OnOk, OnErr};
+ghost use Rattle.std.specs.Prelude.{◌≡◌, ℕ, ◌<◌, ◌⊎◌, length, slice_get, Option, IfOk, IfSome, OnOk, OnErr};
 ghost use Rattle.arrayvec.specs.ArrayVec.{array_vec_len};
 ghost use Rattle.perc_contexts.specs.Receiving as spec;
-ghost use Rattle.perc_contexts.specs.Receiving.{Receiving, Attempt, committed, freshness_of, is_live, nothing_held, renewed, retired, spi_answer, still_live};
-ghost use Rattle.perc_contexts.specs.Kept.{IsAnswer, IsCarried, StandsFor, told};
+ghost use Rattle.perc_contexts.specs.Receiving.{Receiving, Attempt, Carried, committed, freshness_of, is_live, nothing_held, renewed, retired, spi_answer, still_live};
+ghost use Rattle.perc_contexts.specs.Kept.{CanCommit, IsAnswer, IsCarried, IsPlace, IsTry, StandsFor, told};
 
 mod installed;
 mod places;
@@ -14,6 +14,7 @@ mod places;
 use arrayvec::ArrayVec;
 use installed::{Installed, keep_live};
 use perc_base::Memory;
+use perc_window::Freshness;
 use places::{try_carried, try_newest};
 use std::alloc::Global;
 use std::marker::Model;
@@ -147,6 +148,27 @@ impl Contexts {
         }
         try_newest(self.contexts.as_slice(), ssrc, seq, &mut list);
         Ok(list)
+    }
+
+    /// The SPI and the key, of 16 or 32 octets, of the context at a place, by its number in the order of installing.
+    pub fn key_of(&self, place: usize) -> (u16, &[u8])
+        requires { place < length self.now.contexts }
+        ensures value { (held : Receiving) → StandsFor self.now held → IfSome (slice_get held.contexts place) (λ c. (result.0 ≡ c.spi) × (result.1.now ≡ c.key)) }
+        ensures length { (length result.1.now ≡ 16) ⊎ (length result.1.now ≡ 32) }
+    {
+        let context = &self.contexts[place];
+        (context.spi(), context.key())
+    }
+
+    /// What the context of a try says to its index; a new context says that it is fresh.
+    pub fn fresh(&self, attempt: &Try) -> Freshness
+        requires { IsPlace self.now.contexts attempt.now.place }
+        ensures { (held : Receiving) (ssrc : ℕ) (carried : Option Carried) (a : Attempt) → StandsFor self.now held → IsTry held.contexts ssrc carried attempt.now a → result ≡ freshness_of a }
+    {
+        match attempt.place {
+            TryPlace::Held(place) => self.contexts[place].fresh(attempt.index),
+            TryPlace::New => Freshness::Fresh,
+        }
     }
 }
 

