@@ -2,3 +2,5 @@ pub mod Lists
 pub mod Standing
 pub mod Found
 pub mod Trying
+pub mod Names
+pub mod Committing

@@ -1,6 +1,7 @@
 -- What is kept stands for what is held, context by context.
-use Rattle.std.proofs.Common.{◌≡◌, ℕ, ◌+◌, ◌-◌, ◌<◌, ◌≤◌, suc, Bool, true, false, cond, not, nat_lt, reverse, List, [], ◌∷◌, ◌++◌, length, filter, Option, Some, None, refl, ap, ◌∙◌, sym, arith, rules}
-use Rattle.std.specs.Prelude.{◌==◌, ◌&&◌, count_by, position}
+use Rattle.std.proofs.Common.{◌≡◌, ℕ, ◌+◌, ◌-◌, ◌<◌, ◌≤◌, suc, Bool, true, false, cond, not, nat_lt, reverse, get_or, subst, zero, List, [], ◌∷◌, ◌++◌, length, filter, Option, Some, None, refl, ap, ◌∙◌, sym, arith, rules}
+use Rattle.std.specs.Prelude.{◌==◌, ◌&&◌, count_by, position, slice_get, IfSome}
+use Rattle.std.proofs.lemmas.Option.{slice_get_within}
 use Rattle.std.specs.List.{position_or_len}
 use Rattle.std.specs.Str.{bytes_eq}
 use Rattle.std.proofs.lemmas.List.{reverse-append}
@@ -97,3 +98,22 @@ renewed_stands kept held spi live contexts stands live_is contexts_is = rw (live
   live = ap (λ l. still_live l ++ spi ∷ []) stands.live;
   contexts = rw stands.live (are_of-filter _ _ (λ k c one. ap (λ spi. is_live (still_live held.live) spi) one.spi) kept.contexts held.contexts stands.contexts);
 }
+
+-- ---- at a place
+
+pub are_of-at : (kept : List KeptContext) (contexts : List Context) (place : ℕ) (k : KeptContext) (c : Context) → AreOf kept contexts
+    → k ≡ get_or kept place k → place < length kept → slice_get contexts place ≡ Some c → IsOf k c
+are_of-at [] contexts place k c are read within at = absurd (omega arith)
+are_of-at (j ∷ kept) [] place k c are read within at = absurd are
+are_of-at (j ∷ kept) (d ∷ contexts) zero k c are read within at =
+    let same : d ≡ c = cc in subst (λ x. IsOf k x) same (subst (λ x. IsOf x d) (sym read) are.0)
+are_of-at (j ∷ kept) (d ∷ contexts) (suc place) k c are read within at = are_of-at kept contexts place k c are.1 read (omega arith) at
+
+pub at_within : (kept : List KeptContext) (contexts : List Context) (place : ℕ) (c : Context) → AreOf kept contexts
+    → slice_get contexts place ≡ Some c → place < length kept
+at_within kept contexts place c are at = rw (are_of-length kept contexts are) (slice_get_within contexts place c at)
+
+pub key_at : (kept : List KeptContext) (contexts : List Context) (place : ℕ) (k : KeptContext) (o : Option Context) → AreOf kept contexts
+    → k ≡ get_or kept place k → place < length kept → slice_get contexts place ≡ o → IfSome o (λ c. (k.spi ≡ c.spi) × (k.key ≡ c.key))
+key_at kept contexts place k None are read within at = tt
+key_at kept contexts place k (Some c) are read within at = let one = are_of-at kept contexts place k c are read within at in (one.spi, one.key)

@@ -1,5 +1,5 @@
 // A context as it is held.
-ghost use Rattle.std.specs.Prelude.{◌≡◌, ◌^◌, ◌<◌, ◌==◌, ◌&&◌, ◌⊎◌, [], length, filter, vec_capacity};
+ghost use Rattle.std.specs.Prelude.{◌≡◌, ◌^◌, ◌<◌, ◌==◌, ◌&&◌, ◌⊎◌, ◌≤◌, [], ◌∷◌, ◌++◌, length, filter, vec_len, vec_capacity};
 ghost use Rattle.perc_window.specs.Index.{nearest};
 ghost use Rattle.perc_window.specs.Replay.{freshness, freshness_at};
 ghost use Rattle.perc_contexts.specs.Receiving.{Context, is_live, with_index};
@@ -106,6 +106,18 @@ impl Installed {
     {
         self.window.mark(index);
     }
+}
+
+/// Appends a context, where there is room for it.
+pub(super) fn install(contexts: &mut Vec<Installed>, context: Installed)
+    requires { vec_len contexts.old < vec_capacity contexts.old }
+    ensures items { contexts.new.items ≡ contexts.old.items ++ context ∷ [] }
+    ensures capacity { vec_capacity contexts.old ≤ vec_capacity contexts.new }
+{
+    // With room at hand this takes no memory, so it can't fail.
+    let Ok(()) = contexts.push(context) else {
+        unreachable!()
+    };
 }
 
 /// Keeps the contexts of live SPIs, in their order.

@@ -12,7 +12,7 @@ mod installed;
 mod places;
 
 use arrayvec::ArrayVec;
-use installed::{Installed, keep_live};
+use installed::{Installed, install, keep_live};
 use perc_base::Memory;
 use perc_window::Freshness;
 use places::{try_carried, try_newest};
@@ -168,6 +168,25 @@ impl Contexts {
         match attempt.place {
             TryPlace::Held(place) => self.contexts[place].fresh(attempt.index),
             TryPlace::New => Freshness::Fresh,
+        }
+    }
+
+    /// Accepts a packet by a fresh one of its tries: its context has the index from now on, and the carried key's new context
+    /// is installed behind the others. Nothing else changes.
+    pub fn commit(&mut self, ssrc: u32, attempt: &Try, carried: Option<&CarriedKey<'_>>)
+        requires key { IsCarried self.old.live (told carried) }
+        requires may { CanCommit self.old ssrc (told carried) attempt.now }
+        ensures { (held : Receiving) (a : Attempt) → StandsFor self.old held → IsTry held.contexts ssrc (told carried.entry) attempt.now a → StandsFor self.new (record held { contexts = committed a held.contexts }) }
+    {
+        match (attempt.place, carried) {
+            (TryPlace::Held(place), _) => self.contexts[place].accept(attempt.index),
+            (TryPlace::New, Some(carried)) => {
+                let mut context = Installed::new(carried.spi, ssrc, carried.key);
+                context.accept(attempt.index);
+                install(&mut self.contexts, context);
+            }
+            // Only a carried key has a new context.
+            (TryPlace::New, None) => unreachable!(),
         }
     }
 }
