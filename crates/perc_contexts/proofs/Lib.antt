@@ -4,3 +4,4 @@ pub mod Found
 pub mod Trying
 pub mod Names
 pub mod Committing
+pub mod ReceivingLaws
