@@ -5,3 +5,5 @@ pub mod Trying
 pub mod Names
 pub mod Committing
 pub mod ReceivingLaws
+pub mod LiveLaws
+pub mod Histories
