@@ -1,0 +1,9 @@
+pub mod Lists
+pub mod Standing
+pub mod Found
+pub mod Trying
+pub mod Names
+pub mod Committing
+pub mod ReceivingLaws
+pub mod LiveLaws
+pub mod Histories

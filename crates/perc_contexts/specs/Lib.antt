@@ -1,0 +1,4 @@
+pub mod Receiving
+pub mod Kept
+pub mod History
+pub mod Places
