@@ -151,6 +151,14 @@ impl Sender {
         Ok(place)
     }
 
+    /// The index of the next packet, without taking it: 2^48 where none is left.
+    pub fn next_index(&self) -> u64
+        ensures value { result ≡ self.now.next }
+        ensures in_range { result ≤ 2 ^ 48 }
+    {
+        self.next
+    }
+
     /// The newest key, 16 or 32 octets.
     pub fn key(&self) -> Option<&[u8]>
         ensures value { option_map (λ octets. octets.now) result ≡ option_map (λ t. t.key) (newest self.now.keys) }

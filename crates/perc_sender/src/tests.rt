@@ -177,6 +177,7 @@ fn send_run(rt: &impl Abort, sender: &mut Sender, run: &Run) {
     assert_eq!(rt; taken, Ok(run.epoch));
     for number in 0..run.count {
         let index = run.first.wrapping_add(number);
+        assert_eq!(rt; sender.next_index(), index);
         let wanted = SendPlace {
             index,
             spi: run.spi,
