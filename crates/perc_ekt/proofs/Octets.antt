@@ -1,7 +1,8 @@
 -- Numbers, the octets that spell them, and pieces of lists.
-use Rattle.std.proofs.Common.{◌≡◌, ℕ, zero, suc, ◌+◌, ◌-◌, ◌^◌, ◌<◌, ◌≤◌, List, [], ◌∷◌, ◌++◌, length, take, drop, get_or, refl, sym, ap, ◌∙◌, arith}
+use Rattle.std.proofs.Common.{◌≡◌, ℕ, zero, suc, ◌+◌, ◌-◌, ◌^◌, ◌<◌, ◌≤◌, List, [], ◌∷◌, ◌++◌, length, take, drop, get_or, ⊎_elim, refl, sym, ap, ◌∙◌, arith}
 use Rattle.std.specs.Int.{byte_at}
-use Rattle.std.proofs.lemmas.List.{drop-drop, drop_at, get_or-drop, length-append, take-append-drop}
+use Rattle.std.proofs.lemmas.Bool.{cases_lt}
+use Rattle.std.proofs.lemmas.List.{drop-drop, drop_at, get_or-drop, get_or-take, get_or_past, length-append, length-take, take-append-drop}
 use Rattle.byteorder.specs.Endian.{big_bytes, big_number}
 
 -- each is an octet
@@ -19,6 +20,13 @@ octets_of xs fits = fits
 pub AreOctets-drop : (n : ℕ) (xs : List ℕ) → AreOctets xs → AreOctets (drop n xs)
 unfolding AreOctets
 AreOctets-drop n xs h i = rw get_or-drop (h (n + i))
+
+pub AreOctets-take : (n : ℕ) (xs : List ℕ) → AreOctets xs → AreOctets (take n xs)
+unfolding AreOctets
+AreOctets-take n xs h i =
+    ⊎_elim (λ (inside : i < n). rw (get_or-take n xs i 0 inside) (h i))
+    (λ (past : n ≤ i). rw (get_or_past (take n xs) i 0 (omega (arith, length-take n xs))) (omega arith))
+    (cases_lt i n)
 
 pub AreOctets-cons : (x : ℕ) (xs : List ℕ) → x < 256 → AreOctets xs → AreOctets (x ∷ xs)
 unfolding AreOctets
@@ -119,5 +127,5 @@ behind w r xs k is len =
 -- the number at the end
 pub last_number : (w xs : List ℕ) (x : ℕ) → xs ≡ w ++ (x ∷ []) → get_or xs (length xs - 1) 0 ≡ x
 last_number w xs x is =
-    let place : length xs - 1 + 0 ≡ length xs - 1 = omega arith in
-    ap (λ (i : ℕ). get_or xs i 0) (sym place) ∙ sym (get_or-drop (length xs - 1) xs 0 0) ∙ ap (λ (r : List ℕ). get_or r 0 0) (behind w (x ∷ []) xs 1 is refl)
+    let last : length xs - 1 + 0 ≡ length xs - 1 = omega arith in
+    ap (λ (i : ℕ). get_or xs i 0) (sym last) ∙ sym (get_or-drop (length xs - 1) xs 0 0) ∙ ap (λ (r : List ℕ). get_or r 0 0) (behind w (x ∷ []) xs 1 is refl)

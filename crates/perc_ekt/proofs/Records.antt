@@ -1,5 +1,6 @@
 -- Records of EKT keys: what is read of one, and that each is read.
-use Rattle.std.proofs.Common.{◌≡◌, ℕ, ◌+◌, ◌-◌, ◌≤◌, ◌⊎◌, List, [], ◌++◌, length, take, drop, replicate, inl, inr, refl, sym, ap, ◌∙◌, append_assoc, arith}
+use Rattle.std.proofs.Common.{◌≡◌, ℕ, ◌+◌, ◌-◌, ◌≤◌, ◌⊎◌, ◌&&◌, Bool, true, false, cond, eqb, Option, Some, None, subst, List, [], ◌++◌, length, take, drop, replicate, inl, inr, refl, sym, ap, ◌∙◌, append_assoc, arith}
+use Rattle.std.proofs.lemmas.Bool.Decides.{nat_tests}
 use Rattle.std.proofs.lemmas.List.{take_at, drop_at, drop_all, append-nil, drop-drop, length-append, length-drop, length-take-le, length-replicate, take-append-drop}
 use Rattle.byteorder.specs.Endian.{big_bytes, big_number}
 use Rattle.byteorder.specs.Numbers.{big_number-reads_back}
@@ -8,8 +9,7 @@ use Rattle.perc_base.specs.declared.profile.Profile.TheVariants.{Aes128, Aes256}
 use Rattle.perc_base.specs.Profile.{key_length}
 use Rattle.perc_ekt.specs.declared.record.EktKeyRecord.{EktKeyRecord}
 use Rattle.perc_ekt.specs.Key.{stored}
-use Rattle.perc_ekt.specs.Record.{IsRecord, record_octets}
-use Rattle.perc_ekt.specs.Reading.{record_at}
+use Rattle.perc_ekt.specs.Record.{IsRecord, has_lengths, record_at, record_octets, record_of}
 use Rattle.perc_ekt.proofs.Octets.{AreOctets, AreOctets-drop, two_spelled, three_spelled, piece, piece_as}
 
 -- the parts of a record, from the front and from the back
@@ -104,9 +104,12 @@ record_in octets len fits t =
     let e_v : life ≡ drop (len + 18) octets = sym (append-nil life) ∙ ap (λ (xs : List ℕ). life ++ xs) (sym end) ∙ piece_as (len + 18) 3 (len + 21) life octets v.0 (omega arith) in
     let e_p : spi ++ life ≡ drop (len + 16) octets = ap (λ (xs : List ℕ). spi ++ xs) e_v ∙ piece_as (len + 16) 2 (len + 18) spi octets p.0 (omega arith) in
     let e_s : salt ++ (spi ++ life) ≡ drop (len + 4) octets = ap (λ (xs : List ℕ). salt ++ xs) e_p ∙ piece (len + 4) 12 (len + 16) octets (omega arith) in
-    let e_n : big_bytes 2 12 ++ (salt ++ (spi ++ life)) ≡ drop (len + 2) octets = ap (λ (xs : List ℕ). big_bytes 2 12 ++ xs) e_s ∙ piece_as (len + 2) 2 (len + 4) (big_bytes 2 12) octets n' (omega arith) in
-    let e_k : take len room ++ (big_bytes 2 12 ++ (salt ++ (spi ++ life))) ≡ drop 2 octets = ap (λ (xs : List ℕ). take len room ++ xs) e_n ∙ piece_as 2 len (len + 2) (take len room) octets front (omega arith) in
-    let e_l : big_bytes 2 len ++ (take len room ++ (big_bytes 2 12 ++ (salt ++ (spi ++ life)))) ≡ octets = ap (λ (xs : List ℕ). big_bytes 2 len ++ xs) e_k ∙ piece_as 0 2 2 (big_bytes 2 len) octets l' refl in (
+    let r_n : List ℕ = salt ++ (spi ++ life) in
+    let e_n : big_bytes 2 12 ++ r_n ≡ drop (len + 2) octets = ap (λ (xs : List ℕ). big_bytes 2 12 ++ xs) e_s ∙ piece_as (len + 2) 2 (len + 4) (big_bytes 2 12) octets n' (omega arith) in
+    let r_k : List ℕ = big_bytes 2 12 ++ r_n in
+    let e_k : take len room ++ r_k ≡ drop 2 octets = ap (λ (xs : List ℕ). take len room ++ xs) e_n ∙ piece_as 2 len (len + 2) (take len room) octets front (omega arith) in
+    let r_l : List ℕ = take len room ++ r_k in
+    let e_l : big_bytes 2 len ++ r_l ≡ octets = ap (λ (xs : List ℕ). big_bytes 2 len ++ xs) e_k ∙ piece_as 0 2 2 (big_bytes 2 len) octets l' refl in (
       record {
         size = t.right;
         room = length-append key (replicate (32 - length key) 0) ∙ omega (arith, length-replicate {A = ℕ} (32 - length key) 0, lk);
@@ -133,3 +136,62 @@ written_parts r n is e =
 pub key-lengths : (p : Profile) → (key_length p ≡ 16) ⊎ (key_length p ≡ 32)
 key-lengths Aes128 = inl refl
 key-lengths Aes256 = inr refl
+
+-- ---- the reader
+
+three_pass : (a b c d e f : ℕ) → a ≡ b → c ≡ d → e ≡ f → (eqb a b && eqb c d && eqb e f) ≡ true
+three_pass a b c d e f is_a is_c is_e = grind (arith, nat_tests)
+
+three_passed : (a b c d e f : ℕ) → (eqb a b && eqb c d && eqb e f) ≡ true → (a ≡ b) × (c ≡ d) × (e ≡ f)
+three_passed a b c d e f all = (first a b c d e f all, second a b c d e f all, third a b c d e f all) where
+  first : (a b c d e f : ℕ) → (eqb a b && eqb c d && eqb e f) ≡ true → a ≡ b
+  first a b c d e f all = grind (arith, nat_tests)
+
+  second : (a b c d e f : ℕ) → (eqb a b && eqb c d && eqb e f) ≡ true → c ≡ d
+  second a b c d e f all = grind (arith, nat_tests)
+
+  third : (a b c d e f : ℕ) → (eqb a b && eqb c d && eqb e f) ≡ true → e ≡ f
+  third a b c d e f all = grind (arith, nat_tests)
+
+pub record_found : (len : ℕ) (octets : List ℕ) → has_lengths len octets ≡ true → record_of len octets ≡ Some (record_at octets len)
+unfolding record_of
+record_found len octets e = ap (λ (b : Bool). cond b (Some (record_at octets len)) None) e
+
+pub record_none : (len : ℕ) (octets : List ℕ) → has_lengths len octets ≡ false → record_of len octets ≡ None
+unfolding record_of
+record_none len octets e = ap (λ (b : Bool). cond b (Some (record_at octets len)) None) e
+
+-- a right record is read of its octets
+pub record_reads : (r : EktKeyRecord) (len : ℕ) (octets : List ℕ) → IsRecord r → r.len ≡ len → octets ≡ record_octets r → record_of len octets ≡ Some r
+record_reads r len octets is size e =
+    let p = parts r octets is e in
+    ap (λ (n : ℕ). record_of n octets) (sym size)
+    ∙ record_found r.len octets (three_pass (length octets) (r.len + 21) (big_number 2 octets) r.len (big_number 2 (drop (r.len + 2) octets)) 12 p.size p.len p.salt_len)
+    ∙ ap (λ (q : EktKeyRecord). Some q) p.is
+
+pub lengths_found : (len : ℕ) (octets : List ℕ) → (len ≡ 16) ⊎ (len ≡ 32) → has_lengths len octets ≡ true → Lengths octets len
+lengths_found len octets right e =
+    let t = three_passed (length octets) (len + 21) (big_number 2 octets) len (big_number 2 (drop (len + 2) octets)) 12 e in
+    record { right = right; size = t.0; first = t.1; second = t.2 }
+
+bool_cases : (b : Bool) → (b ≡ true) ⊎ (b ≡ false)
+bool_cases true = inl refl
+bool_cases false = inr refl
+
+none_some : (r : EktKeyRecord) → ◌≡◌ {A = Option EktKeyRecord} None (Some r) → ⊥
+none_some r e = cc
+
+same_some : (q r : EktKeyRecord) → ◌≡◌ {A = Option EktKeyRecord} (Some q) (Some r) → q ≡ r
+same_some q r e = cc
+
+-- and what is read is a right record that spells the octets
+pub record_was_read : (len : ℕ) (octets : List ℕ) (r : EktKeyRecord) → (len ≡ 16) ⊎ (len ≡ 32) → AreOctets octets → record_of len octets ≡ Some r
+    → IsRecord r × (r.len ≡ len) × (octets ≡ record_octets r)
+record_was_read len octets r right fits e =
+    elim (bool_cases (has_lengths len octets)) [
+      | inr wrong ↦ absurd (none_some r (sym (record_none len octets wrong) ∙ e))
+      | inl right_lengths ↦
+          let is = same_some (record_at octets len) r (sym (record_found len octets right_lengths) ∙ e) in
+          let read = record_in octets len fits (lengths_found len octets right right_lengths) in
+          (subst IsRecord is read.0, sym (ap (λ (q : EktKeyRecord). q.len) is), read.1 ∙ ap record_octets is)
+    ]

@@ -1,7 +1,7 @@
 // The fields at the end of datagrams.
 ghost use Rattle.std.specs.Prelude.{◌≡◌, ℕ, ◌+◌, ◌%◌, ◌≤◌, ◌↔◌, false, IsTrue, List, [], ◌∷◌, ◌++◌, length, drop, Some, None, IfOk, IfSome, IfNone, SomeIff, MatchResult};
 ghost use Rattle.byteorder.specs.Endian.{big_bytes};
-ghost use Rattle.perc_ekt.specs.Field.{Field, Full, IsDatagram, announced, field_fault, is_wrong_length, spelling, told_of};
+ghost use Rattle.perc_ekt.specs.Field.{Field, Full, IsCipherLength, announced, field_of, is_wrong_length, spelling, told_of};
 ghost use Rattle.perc_ekt.specs.Reading.{length_at, told_at};
 
 use crate::numbers::u16_at;
@@ -51,13 +51,10 @@ pub enum FieldFault {
 /// full one is a wrapped key of 16 to 4096 octets, a multiple of 8, the SPI, the epoch and the length of the whole field in
 /// two octets each, and the octet 2. One of another type is octets, the length of the whole field, and a type from 3 on.
 pub fn read_end(datagram: &[u8]) -> Result<(EktField, usize), FieldFault>
-    // What is read stands there behind a packet.
-    ensures ok { IfOk result (λ read. (packet : List ℕ) × (field : Field) × IsDatagram packet field datagram.now
-        × (read.0 ≡ told_of field (length packet)) × (read.1 ≡ length (spelling field))) }
-    // Each field behind a packet is read.
-    ensures only { (packet : List ℕ) (field : Field) → IsDatagram packet field datagram.now → result ≡ Ok (told_of field (length packet), length (spelling field)) }
-    // And why a datagram is refused.
-    ensures fault { MatchResult result (λ _. field_fault datagram.now ≡ None) (λ fault. field_fault datagram.now ≡ Some fault) }
+    ensures answer { MatchResult (field_of datagram.now)
+        (λ read. result ≡ Ok (told_of read.1 (length read.0), length (spelling read.1)))
+        (λ fault. result ≡ Err fault) }
+    ensures within { IfOk result (λ read. (1 ≤ read.1) × (read.1 ≤ length datagram.now)) }
 {
     let Some(kind) = datagram.last().copied() else {
         return Err(FieldFault::NoField);
@@ -109,7 +106,7 @@ fn is_wrong_length(kind: u8, len: usize) -> bool
 
 // Whether a wrapped key can have this length.
 fn is_cipher_length(len: usize) -> bool
-    ensures { IsTrue result ↔ ((16 ≤ len) × (len ≤ 4096) × (len % 8 ≡ 0)) }
+    ensures { IsTrue result ↔ IsCipherLength len }
 {
     (16..=4096).contains(&len) && len % 8 == 0
 }
@@ -146,7 +143,7 @@ pub fn write_short(out: &mut [u8]) -> Option<usize>
 /// the wrapped key hasn't 16 to 4096 octets, a multiple of 8. Then `out` is as it was.
 #[tactic(auto, unfolding(crate::specs::Field::spelling))]
 pub fn write_full(spi: u16, epoch: u16, cipher: &[u8], out: &mut [u8]) -> Option<usize>
-    ensures length { SomeIff result ((16 ≤ length cipher.now) × (length cipher.now ≤ 4096) × (length cipher.now % 8 ≡ 0) × (length cipher.now + 7 ≤ length out.old)) (length cipher.now + 7) }
+    ensures length { SomeIff result (IsCipherLength (length cipher.now) × (length cipher.now + 7 ≤ length out.old)) (length cipher.now + 7) }
     ensures value { IfSome result (λ n. out.new ≡ spelling (Full cipher.now spi epoch) ++ drop n out.old) }
     ensures none { IfNone result (out.new ≡ out.old) }
 {

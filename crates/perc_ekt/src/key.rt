@@ -1,9 +1,10 @@
 // Keys wrapped and unwrapped.
-ghost use Rattle.std.specs.Prelude.{◌≡◌, ℕ, ◌+◌, ◌<◌, ◌≤◌, ◌⊎◌, ◌↔◌, List, ◌++◌, length, drop, take, IfOk, IfSome, Some};
+ghost use Rattle.std.specs.Prelude.{◌≡◌, ◌+◌, ◌<◌, ◌≤◌, ◌⊎◌, ◌++◌, length, drop, take, IfOk, IfSome, MatchOption, MatchResult};
 ghost use Rattle.byteorder.specs.Endian.{big_bytes};
+ghost use Rattle.perc_aes.specs.Cipher.{IsKey};
 ghost use Rattle.perc_base.specs.Profile.{key_length};
 ghost use Rattle.perc_keywrap.specs.Wrap.{IsWrapped, wrapped};
-ghost use Rattle.perc_ekt.specs.Key.{IsPlainText, plain_text, stored, unwrapped_as};
+ghost use Rattle.perc_ekt.specs.Key.{IsUnwrapped, key_in, opened_key, plain_text, stored, unwrapped_as};
 
 use crate::numbers::u32_at;
 use byteorder::{BigEndian, ByteOrder};
@@ -39,8 +40,8 @@ pub fn wrap_key(ekt: &AesKey, key: &[u8], ssrc: u32, roc: u32, out: &mut [u8; 56
     requires { (length key.now ≡ 16) ⊎ (length key.now ≡ 32) }
     ensures len { result ≡ length key.now + 24 }
     ensures value { out.new ≡ wrapped ekt.now (plain_text key.now ssrc roc) ++ drop result out.old }
-    ensures wrapped { IsWrapped ekt.now (plain_text key.now ssrc roc) (wrapped ekt.now (plain_text key.now ssrc roc)) }
-    ensures size { length (wrapped ekt.now (plain_text key.now ssrc roc)) ≡ length key.now + 24 }
+    ensures wrapped { IsWrapped ekt.now (plain_text key.now ssrc roc) (take result out.new) }
+    ensures key { IsKey ekt.now }
 {
     let mut plain = [0; 41];
     write_plain(key, ssrc, roc, &mut plain);
@@ -79,15 +80,10 @@ fn write_numbers(ssrc: u32, roc: u32, out: &mut [u8])
 
 /// Unwraps a key of the profile's length under an EKT key (RFC 8870 section 4.3). What `cipher` holds then is not specified.
 pub fn unwrap_key(ekt: &AesKey, profile: Profile, cipher: &mut [u8]) -> Result<Wrapped, KeyFault>
-    // What is given was wrapped, with a key of this length.
-    ensures ok { IfOk result (λ w. (key plain : List ℕ) × IsPlainText (key_length profile) key w.ssrc w.roc plain × IsWrapped ekt.now plain cipher.old × (w ≡ unwrapped_as key w.ssrc w.roc)) }
-    // Each such key is given.
-    ensures only { (key plain : List ℕ) (ssrc roc : ℕ) → IsPlainText (key_length profile) key ssrc roc plain → IsWrapped ekt.now plain cipher.old → result ≡ Ok (unwrapped_as key ssrc roc) }
-    // Nothing was wrapped to these octets.
-    ensures unwrap { (result ≡ Err KeyFault.Unwrap) ↔ ((plain : List ℕ) → IsWrapped ekt.now plain cipher.old → ⊥) }
-    // Something else was.
-    ensures plain { (result ≡ Err KeyFault.Plain) ↔ ((plain : List ℕ) × IsWrapped ekt.now plain cipher.old
-        × ((key : List ℕ) (ssrc roc : ℕ) → IsPlainText (key_length profile) key ssrc roc plain → ⊥)) }
+    ensures answer { MatchResult (opened_key ekt.now (key_length profile) cipher.old)
+        (λ k. result ≡ Ok (unwrapped_as k.key k.ssrc k.roc))
+        (λ fault. result ≡ Err fault) }
+    ensures fits { IfOk result (λ w. IsUnwrapped (key_length profile) w) }
 {
     let Ok(len) = unwrap(ekt, cipher) else {
         return Err(KeyFault::Unwrap);
@@ -101,8 +97,8 @@ pub fn unwrap_key(ekt: &AesKey, profile: Profile, cipher: &mut [u8]) -> Result<W
 // What a plain text says, where it is one with a key of this length.
 fn read_plain(plain: &[u8], len: usize) -> Option<Wrapped>
     requires { len ≤ 32 }
-    ensures some { IfSome result (λ w. IsPlainText len (take len (drop 1 plain.now)) w.ssrc w.roc plain.now × (w ≡ unwrapped_as (take len (drop 1 plain.now)) w.ssrc w.roc)) }
-    ensures only { (key : List ℕ) (ssrc roc : ℕ) → IsPlainText len key ssrc roc plain.now → result ≡ Some (unwrapped_as key ssrc roc) }
+    ensures answer { MatchOption (key_in len plain.now) (result ≡ None) (λ k. result ≡ Some (unwrapped_as k.key k.ssrc k.roc)) }
+    ensures fits { IfSome result (λ w. IsUnwrapped len w) }
 {
     if plain.len() != len + 9 || usize::from(plain[0]) != len {
         return None;

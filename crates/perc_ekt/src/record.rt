@@ -1,9 +1,8 @@
 // Records of EKT keys.
-ghost use Rattle.std.specs.Prelude.{◌≡◌, ◌+◌, ◌<◌, ◌≤◌, ◌^◌, ◌++◌, ◌↔◌, ◌⊎◌, IsTrue, Some, List, ℕ, length, drop, take, IfSome};
-ghost use Rattle.byteorder.specs.Endian.{big_bytes, big_number};
+ghost use Rattle.std.specs.Prelude.{◌≡◌, ◌+◌, ◌<◌, ◌≤◌, ◌^◌, ◌++◌, length, drop, take, IfSome};
+ghost use Rattle.byteorder.specs.Endian.{big_bytes};
 ghost use Rattle.perc_base.specs.Profile.{key_length};
-ghost use Rattle.perc_ekt.specs.Record.{IsRecord, record_octets};
-ghost use Rattle.perc_ekt.specs.Reading.{record_at};
+ghost use Rattle.perc_ekt.specs.Record.{IsRecord, has_lengths, record_at, record_octets, record_of};
 
 use crate::key::stored;
 use crate::numbers::{u16_at, u24_at};
@@ -33,8 +32,8 @@ impl EktKeyRecord {
     /// The record that octets spell, 37 or 53 of them: the length of the key in two octets, the key, 000c, the salt, the SPI in
     /// two octets and the life in three. None exactly where they spell none with a key of the profile's length.
     pub fn read(bytes: &[u8], profile: Profile) -> Option<EktKeyRecord>
-        ensures some { IfSome result (λ r. IsRecord r × (r.len ≡ key_length profile) × (bytes.now ≡ record_octets r)) }
-        ensures only { (r : EktKeyRecord) → IsRecord r → r.len ≡ key_length profile → bytes.now ≡ record_octets r → result ≡ Some r }
+        ensures answer { result ≡ record_of (key_length profile) bytes.now }
+        ensures right { IfSome result (λ r. IsRecord r × (r.len ≡ key_length profile)) }
     {
         let len = profile.key_len();
         if has_lengths(bytes, len) {
@@ -62,7 +61,7 @@ impl EktKeyRecord {
 // Whether there are as many octets as in a record with a key of this length, and the lengths in it are right.
 fn has_lengths(bytes: &[u8], len: usize) -> bool
     requires { len ≤ 32 }
-    ensures { IsTrue result ↔ ((length bytes.now ≡ len + 21) × (big_number 2 bytes.now ≡ len) × (big_number 2 (drop (len + 2) bytes.now) ≡ 12)) }
+    ensures { result ≡ has_lengths len bytes.now }
 {
     bytes.len() == len + 21
         && usize::from(u16_at(bytes, 0)) == len

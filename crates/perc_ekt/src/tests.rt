@@ -1,9 +1,9 @@
 // Fields, wrapped keys and records, against octets spelled out by hand and outside vectors.
-ghost use Rattle.std.specs.Prelude.{◌<◌};
-
 use super::*;
 use perc_aes::AesKey;
 use perc_base::Profile;
+use std::alloc::Global;
+use std::process::Abort;
 
 // EKT key, inner key, SSRC, roll-over counter, SPI, epoch and the whole field.
 const FIELDS: [(&str, &str, u32, u32, u16, u16, &str); 6] = [
@@ -113,32 +113,17 @@ const RECORDS: [(&[u8], Profile, &[u8]); 2] = [
     ),
 ];
 
-fn digit(text: u8) -> u8
-    ensures { result < 16 }
-{
-    match text {
-        b'0'..=b'9' => text - b'0',
-        b'a'..=b'f' => text - b'a' + 10,
-        _ => 0,
-    }
+// The octets that a text spells.
+fn octets(rt: &impl Abort, alloc: Global, text: &str) -> Vec<u8> {
+    hex::decode(alloc, text).expect(rt, "the text is hexadecimal")
 }
 
-// The octets of a text, with zeros behind.
-fn octets<const N: usize>(hex: &str) -> [u8; N] {
-    let hex = hex.as_bytes();
-    let mut octets = [0; N];
-    for i in 0..N {
-        if 2 * i + 1 < hex.len() {
-            octets[i] = 16 * digit(hex[2 * i]) + digit(hex[2 * i + 1]);
-        }
-    }
-    octets
-}
-
-fn size(hex: &str) -> usize
-    ensures { result < 64 }
-{
-    (hex.len() / 2).min(63)
+// The key that a text spells, with zeros behind one of 16 octets.
+fn key_of(rt: &impl Abort, text: &str) -> [u8; 32] {
+    let mut key = [0; 32];
+    let len = (text.len() / 2).min(32);
+    hex::decode_to_slice(text, &mut key[..len]).expect(rt, "the text is hexadecimal");
+    key
 }
 
 fn profile(len: usize) -> Profile {
@@ -156,15 +141,6 @@ fn other(profile: Profile) -> Profile {
     }
 }
 
-fn wrapped(key: &str, ssrc: u32, roc: u32) -> Wrapped {
-    Wrapped {
-        key: octets::<32>(key),
-        len: size(key),
-        ssrc,
-        roc,
-    }
-}
-
 // What is read of a field: its length, type and where the wrapped key starts.
 fn told(datagram: &[u8]) -> Result<(usize, u8, usize), FieldFault> {
     match read_end(datagram) {
@@ -175,45 +151,50 @@ fn told(datagram: &[u8]) -> Result<(usize, u8, usize), FieldFault> {
     }
 }
 
-// Whether a vector's key is wrapped, written, read and unwrapped as it should be.
-fn is_vector(row: &(&str, &str, u32, u32, u16, u16, &str)) -> bool {
+// A vector's key is wrapped, written, read and unwrapped as it should be.
+fn is_as_in(rt: &impl Abort, alloc: Global, row: &(&str, &str, u32, u32, u16, u16, &str)) {
     let (ekt, key, ssrc, roc, spi, epoch, field) = *row;
-    let Some(ekt) = AesKey::new(&octets::<32>(ekt)[..size(ekt).min(32)]) else {
-        return false;
-    };
-    let len = size(key).min(32);
-    let end = len + 24;
+    let ekt = AesKey::new(&octets(rt, alloc, ekt)).expect(rt, "the length is one of a key");
+    let len = (key.len() / 2).min(32);
+    let key = key_of(rt, key);
+    let field = octets(rt, alloc, field);
     let key_profile = profile(len);
+    assert!(rt; len == 16 || len == 32, "{len} octets of a key");
+    let end = len + 24;
     let mut cipher = [7; 56];
-    if len != 16 && len != 32
-        || wrap_key(&ekt, &octets::<32>(key)[..len], ssrc, roc, &mut cipher) != end
-    {
-        return false;
-    }
+    assert_eq!(rt; wrap_key(&ekt, &key[..len], ssrc, roc, &mut cipher), end);
+    assert!(rt; cipher[end..].iter().all(|x| *x == 7));
     let mut out = [7; 64];
-    if write_full(spi, epoch, &cipher[..end], &mut out[1..]) != Some(end + 7) {
-        return false;
-    }
+    assert_eq!(rt;
+        write_full(spi, epoch, &cipher[..end], &mut out[1..]),
+        Some(end + 7)
+    );
+    assert_eq!(rt; field.len(), end + 7);
+    assert!(rt; out[1..].starts_with(&field));
     let read = EktField::Full {
         spi,
         epoch,
         cipher: 1..end + 1,
     };
+    assert_eq!(rt; read_end(&out[..end + 8]), Ok((read, end + 7)));
     let mut altered = cipher;
     altered[5] ^= 1;
+    assert!(rt; unwrap_key(&ekt, key_profile, &mut altered[..end]) == Err(KeyFault::Unwrap));
     let mut again = cipher;
-    cipher[end..].iter().all(|x| *x == 7)
-        && out[1..].starts_with(&octets::<63>(field)[..end + 7])
-        && read_end(&out[..end + 8]) == Ok((read, end + 7))
-        && unwrap_key(&ekt, key_profile, &mut cipher[..end]) == Ok(wrapped(key, ssrc, roc))
-        && unwrap_key(&ekt, other(key_profile), &mut again[..end]) == Err(KeyFault::Plain)
-        && unwrap_key(&ekt, key_profile, &mut altered[..end]) == Err(KeyFault::Unwrap)
+    assert!(rt; unwrap_key(&ekt, other(key_profile), &mut again[..end]) == Err(KeyFault::Plain));
+    let told = Wrapped {
+        key,
+        len,
+        ssrc,
+        roc,
+    };
+    assert!(rt; unwrap_key(&ekt, key_profile, &mut cipher[..end]) == Ok(told));
 }
 
 #[test]
 fn vectors(rt: HostRuntime) {
     for row in &FIELDS {
-        assert!(rt; is_vector(row), "{}", row.6);
+        is_as_in(&rt, rt.alloc(), row);
     }
 }
 
@@ -320,14 +301,14 @@ fn is_alone(octets: &[u8], key_profile: Profile) -> bool {
         && EktKeyRecord::read(&record[..len + 1], key_profile).is_none()
         && [0, 1, key_profile.key_len() + 2, key_profile.key_len() + 3]
             .iter()
-            .all(|place| is_altered(&record[..len], *place, key_profile))
+            .all(|offset| is_altered(&record[..len], *offset, key_profile))
 }
 
-fn is_altered(octets: &[u8], place: usize, key_profile: Profile) -> bool {
+fn is_altered(octets: &[u8], offset: usize, key_profile: Profile) -> bool {
     let len = octets.len().min(53);
     let mut record = [0; 53];
     record[..len].copy_from_slice(&octets[..len]);
-    record[place.min(52)] ^= 1;
+    record[offset.min(52)] ^= 1;
     EktKeyRecord::read(&record[..len], key_profile).is_none()
 }
 

@@ -1,5 +1,5 @@
 -- What octets are unwrapped to is the plain text that is wrapped to them, where there is one.
-use Rattle.std.proofs.Common.{◌≡◌, ℕ, zero, suc, ◌+◌, ◌*◌, ◌/◌, ◌%◌, ◌^◌, ◌<◌, ◌≤◌, ◌↔◌, Bool, true, false, cond, ◌⊎◌, inl, inr, List, [], ◌∷◌, ◌++◌, length, map, get_or, Option, Some, None, refl, sym, ◌∙◌, ap, subst, arith}
+use Rattle.std.proofs.Common.{◌≡◌, ℕ, zero, suc, ◌+◌, ◌*◌, ◌/◌, ◌%◌, ◌^◌, ◌<◌, ◌≤◌, ◌↔◌, ◌≢◌, Bool, true, false, cond, ◌⊎◌, inl, inr, List, [], ◌∷◌, ◌++◌, length, map, get_or, Option, Some, None, refl, sym, ◌∙◌, ap, subst, arith}
 use Rattle.std.specs.List.{AllByRecursion as Each, find, range_with_len}
 use Rattle.std.specs.Str.{bytes_eq}
 use Rattle.std.proofs.Math.Nat.{pow-suc}
@@ -9,7 +9,7 @@ use Rattle.perc_aes.specs.Cipher.{IsKey}
 use Rattle.perc_keywrap.specs.Unwrap.{octets_of, texts, texts_up_to, unwrapped}
 use Rattle.perc_keywrap.specs.Wrap.{IsWrapped, wrapped}
 use Rattle.perc_keywrap.proofs.Octets.{AreOctets}
-use Rattle.perc_keywrap.proofs.WrapLaws.{one_plain_text}
+use Rattle.perc_keywrap.proofs.WrapLaws.{length-wrapped-ge, length-wrapped-le, length-wrapped-whole, one_plain_text}
 
 -- ---- the octets of a number
 
@@ -193,3 +193,16 @@ unwrapped_none key octets = (
         | inr found ↦ absurd (nothing found.0 (unwrapped_is key octets found.0 found.1))
       ],
 )
+
+-- octets of a wrong length are unwrapped to none
+pub unwrapped_wrong : (key octets : List ℕ) → (length octets < 16) ⊎ ((4104 < length octets) ⊎ (length octets % 8 ≢ 0)) → unwrapped key octets ≡ None
+unwrapped_wrong key octets wrong =
+    (unwrapped_none key octets).1 (λ plain is.
+    let least = length-wrapped-ge key plain octets is in
+    let most = length-wrapped-le key plain octets is in
+    let whole = length-wrapped-whole key plain octets is in
+    elim wrong [
+      | inl short ↦ omega (arith, short, least)
+      | inr (inl long) ↦ omega (arith, long, most)
+      | inr (inr part) ↦ part whole
+    ])
