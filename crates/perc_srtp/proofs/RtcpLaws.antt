@@ -153,7 +153,7 @@ forged_rtcp_opens keys index packet none =
 
 -- ---- one index
 
-word_number : (index : ℕ) → index < 2 ^ 31 → big_number 4 (rtcp_word index) ≡ 2 ^ 31 + index
+pub word_number : (index : ℕ) → index < 2 ^ 31 → big_number 4 (rtcp_word index) ≡ 2 ^ 31 + index
 word_number index fits = big_number-reads_back 4 (2 ^ 31 + index) [] (omega arith)
 
 -- A sealed packet tells its index, and was sealed of one packet.

@@ -1,17 +1,20 @@
 -- What the ends of a stream open: what was sealed at the index that they take, and nothing else.
-use Rattle.std.proofs.Common.{◌≡◌, ℕ, ◌-◌, ◌<◌, ◌≤◌, List, length, Option, Some, None, Result, Ok, Err, refl, sym, ap, ◌∙◌, arith}
+use Rattle.std.proofs.Common.{◌≡◌, ℕ, ◌+◌, ◌-◌, ◌/◌, ◌^◌, ◌<◌, ◌≤◌, List, length, get_or, Option, Some, None, Result, Ok, Err, refl, sym, ap, ◌∙◌, arith}
 use Rattle.std.proofs.lemmas.Bool.Decides.{nat_tests}
-use Rattle.std.proofs.lemmas.List.{length-append}
+use Rattle.std.proofs.lemmas.List.{get_or-take, length-append}
+use Rattle.byteorder.specs.Endian.{big_number}
 use Rattle.perc_kdf.specs.Derivation.{KeyAndSalt}
-use Rattle.perc_rtp.specs.Header.{Header, IsPacket, spelling}
+use Rattle.perc_rtp.specs.Header.{Header, IsPacket, spelling, version}
+use Rattle.perc_window.specs.Replay.{freshness}
+use Rattle.perc_window.specs.declared.window.Freshness.TheVariants.{Fresh}
 use Rattle.perc_srtp.specs.declared.streams.RxFault.{RxFault}
 use Rattle.perc_srtp.specs.declared.streams.RxFault.TheVariants as rx
 use Rattle.perc_srtp.specs.declared.rtcp.RtcpFault.{RtcpFault}
 use Rattle.perc_srtp.specs.declared.rtcp.RtcpFault.TheVariants as rtcp
 use Rattle.perc_srtp.specs.Sealed.{sealed_body, sealed_rtcp, unsealed_body, unsealed_rtcp}
-use Rattle.perc_srtp.specs.Streams.{opened_at, rtcp_opened, rtcp_place, rx_index, rx_opened, rx_place}
+use Rattle.perc_srtp.specs.Streams.{end_word, opened_at, rtcp_opened, rtcp_place, rx_index, rx_opened, rx_place}
 use Rattle.perc_srtp.proofs.PacketLaws.{length-sealed_body, sealed_opens, unsealed_as_sealed}
-use Rattle.perc_srtp.proofs.RtcpLaws.{rtcp_as_sealed, rtcp_opens}
+use Rattle.perc_srtp.proofs.RtcpLaws.{AreParts, parts_of, rtcp_as_sealed, rtcp_opens, word_number}
 
 -- ---- the place
 
@@ -110,3 +113,33 @@ pub rtcp_sealed_opens : (keys : KeyAndSalt) (before packet : List ℕ) (index : 
     → packet ≡ sealed_rtcp keys index plain → 8 ≤ length plain → rtcp_opened keys before packet ≡ Ok (index, plain)
 rtcp_sealed_opens keys before packet index plain place is within =
     rtcp_by_tag keys before packet index place ∙ ap (opened_at rtcp.Tag index) (rtcp_opens keys index packet plain within is)
+
+-- ---- what a sender made opens
+
+end_word_sealed : (keys : KeyAndSalt) (index : ℕ) (plain packet : List ℕ) → index < 2 ^ 31 → AreParts keys index plain packet → end_word packet ≡ 2 ^ 31 + index
+end_word_sealed keys index plain packet fits parts = ap (big_number 4) parts.word ∙ word_number index fits
+
+version_sealed : (keys : KeyAndSalt) (index : ℕ) (plain packet : List ℕ) → AreParts keys index plain packet → version packet ≡ version plain
+version_sealed keys index plain packet parts =
+    let first : get_or packet 0 0 ≡ get_or plain 0 0 =
+    sym (get_or-take 8 packet 0 0 (omega arith)) ∙ ap (λ (xs : List ℕ). get_or xs 0 0) parts.head ∙ get_or-take 8 plain 0 0 (omega arith) in
+    ap (λ (x : ℕ). x / 64) first
+
+-- An RTCP packet of version 2 that was sealed at a fresh index leads to that index.
+pub rtcp_place_sealed : (keys : KeyAndSalt) (before packet : List ℕ) (index : ℕ) (plain : List ℕ) → packet ≡ sealed_rtcp keys index plain
+    → 8 ≤ length plain → version plain ≡ 2 → index < 2 ^ 31 → freshness before index ≡ Fresh → rtcp_place before packet ≡ Ok index
+rtcp_place_sealed keys before packet index plain is within two fits fresh =
+    let parts = parts_of keys index plain packet within is in
+    let size : 28 ≤ length packet = omega (arith, parts.size) in
+    let v : version packet ≡ 2 = version_sealed keys index plain packet parts ∙ two in
+    let w : end_word packet ≡ 2 ^ 31 + index = end_word_sealed keys index plain packet fits parts in
+    let at : end_word packet - 2 ^ 31 ≡ index = omega arith in
+    let there : freshness before (end_word packet - 2 ^ 31) ≡ Fresh = ap (freshness before) at ∙ fresh in
+    grind (arith, nat_tests)
+
+-- So it opens there.
+pub rtcp_genuine_opens : (keys : KeyAndSalt) (before : List ℕ) (index : ℕ) (plain : List ℕ) → 8 ≤ length plain → version plain ≡ 2 → index < 2 ^ 31
+    → freshness before index ≡ Fresh → rtcp_opened keys before (sealed_rtcp keys index plain) ≡ Ok (index, plain)
+rtcp_genuine_opens keys before index plain within two fits fresh =
+    let packet : List ℕ = sealed_rtcp keys index plain in
+    rtcp_sealed_opens keys before packet index plain (rtcp_place_sealed keys before packet index plain refl within two fits fresh) refl within

@@ -2,9 +2,10 @@
 //! their contracts are the laws.
 ghost use Rattle.std.specs.Prelude.{◌≡◌, ℕ, ◌+◌, ◌%◌, ◌^◌, ◌<◌, ◌≤◌, ◌↔◌, List, [], false, None, Some, Ok, length, slice_index};
 ghost use Rattle.perc_kdf.specs.Derivation.{IsSession, KeyAndSalt};
-ghost use Rattle.perc_rtp.specs.Header.{Header, IsHeader};
+ghost use Rattle.perc_rtp.specs.Header.{Header, IsHeader, version};
 ghost use Rattle.perc_window.specs.Index.{IsNearest, nearest};
-ghost use Rattle.perc_window.specs.Replay.{greatest, has};
+ghost use Rattle.perc_window.specs.Replay.{freshness, greatest, has};
+ghost use Rattle.perc_window.specs.declared.window.Freshness.TheVariants.{Fresh};
 ghost use Rattle.perc_srtp.specs.Sealed.{iv, rtcp_iv, sealed, sealed_body, sealed_rtcp, unsealed_body, unsealed_rtcp};
 ghost use Rattle.perc_srtp.specs.Streams.{rtcp_opened, rtcp_place, rx_index, rx_opened, tx_index};
 
@@ -72,13 +73,16 @@ pub fn unsealing()
         → (unsealed_rtcp keys index packet ≡ None) ↔ ((plain : List ℕ) → 8 ≤ length plain → packet ≡ sealed_rtcp keys index plain → ⊥) }
 {}
 
-/// A stream opens a packet exactly where it was sealed at the index that the packet leads to, and to what was sealed.
+/// A stream opens a packet exactly where it was sealed at the index that the packet leads to, and to what was sealed. An RTCP
+/// packet of version 2 that was sealed at a fresh index is opened there.
 pub fn opening()
     ensures rtp { (keys : KeyAndSalt) (before : List ℕ) (h : Header) (rest : List ℕ) (index : ℕ) (body : List ℕ)
         → (rx_opened keys before h rest ≡ Ok (index, body)) ↔ ((rx_index before h.seq ≡ Ok index) × (rest ≡ sealed_body keys index h body)) }
     ensures rtcp { (keys : KeyAndSalt) (before packet : List ℕ) (index : ℕ) (plain : List ℕ)
         → (rtcp_opened keys before packet ≡ Ok (index, plain))
         ↔ ((rtcp_place before packet ≡ Ok index) × (packet ≡ sealed_rtcp keys index plain) × (8 ≤ length plain)) }
+    ensures rtcp_fresh { (keys : KeyAndSalt) (before : List ℕ) (index : ℕ) (plain : List ℕ) → 8 ≤ length plain → version plain ≡ 2 → index < 2 ^ 31
+        → freshness before index ≡ Fresh → rtcp_opened keys before (sealed_rtcp keys index plain) ≡ Ok (index, plain) }
 {}
 
 /// A sealed body is 16 octets longer than the body, and a sealed RTCP packet 20 longer than the packet; both are octets.
