@@ -19,21 +19,21 @@ is_its a c = is_of a.context.spi a.context.ssrc a.context.key c
 abbrev pub holds_none : Attempt → List Context → Type 0
 holds_none a contexts = find (is_its a) contexts ≡ None
 
-none_here : (a : Attempt) (c : Context) (contexts : List Context) (its : Bool) → is_its a c ≡ its → holds_none a (c ∷ contexts)
+pub none_here : (a : Attempt) (c : Context) (contexts : List Context) (its : Bool) → is_its a c ≡ its → holds_none a (c ∷ contexts)
     → (is_its a c ≡ false) × holds_none a contexts
 none_here a c contexts true e none = let bad : Some c ≡ None = rw e at none in absurd (cc)
 none_here a c contexts false e none = (e, rw e at none)
 
 -- what a commit makes of the first context
-abbrev committed_by : Attempt → Context → List Context → Bool → List Context
+abbrev pub committed_by : Attempt → Context → List Context → Bool → List Context
 committed_by a c contexts its = cond its (with_index a.index c ∷ contexts) (c ∷ committed a contexts)
 
-committed-cons : (a : Attempt) (c : Context) (contexts : List Context) (its : Bool) → is_its a c ≡ its
+pub committed-cons : (a : Attempt) (c : Context) (contexts : List Context) (its : Bool) → is_its a c ≡ its
     → committed a (c ∷ contexts) ≡ committed_by a c contexts its
 unfolding committed
 committed-cons a c contexts its e = ap (λ b. committed_by a c contexts b) e
 
-committed-nil : (a : Attempt) → committed a [] ≡ with_index a.index a.context ∷ []
+pub committed-nil : (a : Attempt) → committed a [] ≡ with_index a.index a.context ∷ []
 unfolding committed
 committed-nil a = refl
 

@@ -9,6 +9,7 @@ ghost use Rattle.perc_contexts.specs.Receiving.{Receiving, Attempt, Carried, com
 ghost use Rattle.perc_contexts.specs.Kept.{CanCommit, IsAnswer, IsCarried, IsPlace, IsTry, StandsFor, told};
 
 mod installed;
+pub mod laws;
 mod places;
 
 use arrayvec::ArrayVec;
