@@ -1,0 +1,4 @@
+pub mod HistoryLaws
+pub mod Lists
+pub mod PublishingLaws
+pub mod SetLaws

@@ -1,0 +1,119 @@
+-- The set of a list of adds and removals: what is in it, how many there are, and that an association stands once.
+use Rattle.std.proofs.Common.{◌≡◌, ◌≢◌, ℕ, ◌+◌, ◌≤◌, ◌<◌, Bool, true, false, cond, not, List, [], ◌∷◌, ◌++◌, length, ◌⊎◌, ⊎_elim, inl, inr, refl, sym, ap, ◌∙◌, subst, arith, get_or, filter}
+use Rattle.std.specs.List.{All, AllPairs, Contains, slice_index_or}
+use Rattle.std.specs.Prelude.{nat_le}
+use Rattle.std.proofs.lemmas.Bool.{cond_both, leb-false, not-true}
+use Rattle.std.proofs.lemmas.List.{length-append}
+use Rattle.std.proofs.lemmas.List.Elements.{All-nil, All-cons, All-head, All-tail, All-weaker, All-push, All-filter, All-contains, All-contains_itself, filter_passes}
+use Rattle.std.proofs.lemmas.List.Filters.{length-filter_both}
+use Rattle.std.proofs.lemmas.List.Kept.{AllPairs-filter}
+use Rattle.std.proofs.lemmas.List.Quantifiers.{all_pairs_push}
+use Rattle.std.proofs.lemmas.Slice.Eq.{bytes_eq-Decides}
+use Rattle.std.specs.Str.{bytes_eq}
+use Rattle.perc_keyset.specs.declared.Entry.{Entry}
+use Rattle.perc_keyset.specs.declared.Op.{Op}
+use Rattle.perc_keyset.specs.declared.Op.TheVariants.{Add, Remove}
+use Rattle.perc_keyset.specs.Set.{absorbed, fold_ops, is_of, most_entries, set_after, without}
+use Rattle.perc_keyset.specs.History.{IsSetOf, adds}
+
+pub set_after-append : (entries : List Entry) (ops more : List Op) → set_after entries (ops ++ more) ≡ set_after (set_after entries ops) more
+set_after-append entries [] more = refl
+set_after-append entries (op ∷ ops) more = set_after-append (absorbed entries op) ops more
+
+pub adds-append : (ops more : List Op) → adds (ops ++ more) ≡ adds ops ++ adds more
+adds-append [] more = refl
+adds-append (Add e ∷ ops) more = ap (λ (es : List Entry). e ∷ es) (adds-append ops more)
+adds-append (Remove association ∷ ops) more = adds-append ops more
+
+-- what holds of the entries and of each that is added holds of the entries after
+pub All-absorbed : (P : Entry → Type 0) (entries : List Entry) (op : Op) → All P entries → All P (adds (op ∷ [])) → All P (absorbed entries op)
+unfolding absorbed
+All-absorbed P entries (Add e) held added =
+    cond_both (nat_le most_entries (length (without e.association entries))) entries (without e.association entries ++ e ∷ []) (All P)
+    (λ _. held)
+    (λ _. All-push P (without e.association entries) e (All-filter (λ d. not (is_of e.association d)) P entries held) (All-head P e [] added))
+All-absorbed P entries (Remove association) held added =
+    All-filter (λ d. not (is_of association d)) P entries held
+
+pub All-set_after : (P : Entry → Type 0) (entries : List Entry) (ops : List Op) → All P entries → All P (adds ops) → All P (set_after entries ops)
+All-set_after P entries [] held added = held
+All-set_after P entries (Add e ∷ ops) held added =
+    All-set_after P (absorbed entries (Add e)) ops
+    (All-absorbed P entries (Add e) held (All-cons P e [] (All-head P e (adds ops) added) (All-nil P)))
+    (All-tail P e (adds ops) added)
+All-set_after P entries (Remove association ∷ ops) held added =
+    All-set_after P (absorbed entries (Remove association)) ops
+    (All-absorbed P entries (Remove association) held (All-nil P))
+    added
+
+-- an entry after more of them was there before, or was added
+pub from_set_after : (entries : List Entry) (ops : List Op) (e : Entry) → Contains (set_after entries ops) e → Contains entries e ⊎ Contains (adds ops) e
+from_set_after entries ops e there =
+    let P : Entry → Type 0 = λ d. Contains entries d ⊎ Contains (adds ops) d in
+    All-contains P (set_after entries ops) e
+    (All-set_after P entries ops
+    (All-weaker (Contains entries) P (λ d h. inl h) entries (All-contains_itself entries))
+    (All-weaker (Contains (adds ops)) P (λ d h. inr h) (adds ops) (All-contains_itself (adds ops))))
+    there
+
+pub from_fold : (ops : List Op) (e : Entry) → Contains (fold_ops ops) e → Contains (adds ops) e
+from_fold ops e there =
+    All-contains (Contains (adds ops)) (fold_ops ops) e
+    (All-set_after (Contains (adds ops)) [] ops (All-nil (Contains (adds ops))) (All-contains_itself (adds ops)))
+    there
+
+-- ---- how many there are
+
+pub length-filter-le : (p : Entry → Bool) (entries : List Entry) → length (filter p entries) ≤ length entries
+length-filter-le p entries = omega (arith, length-filter_both p (λ e. not (p e)) (λ e. refl) entries)
+
+pub few-absorbed : (entries : List Entry) (op : Op) → length entries ≤ most_entries → length (absorbed entries op) ≤ most_entries
+unfolding absorbed
+few-absorbed entries (Add e) few =
+    cond_both (nat_le most_entries (length (without e.association entries))) entries (without e.association entries ++ e ∷ []) (λ es. length es ≤ most_entries)
+    (λ _. few)
+    (λ fits.
+    let room : length (without e.association entries) < most_entries = leb-false most_entries (length (without e.association entries)) fits in
+    let long : length (without e.association entries ++ e ∷ []) ≡ length (without e.association entries) + 1 = length-append (without e.association entries) (e ∷ []) in
+    omega arith)
+few-absorbed entries (Remove association) few =
+    omega (arith, length-filter-le (λ d. not (is_of association d)) entries)
+
+pub few-set_after : (entries : List Entry) (ops : List Op) → length entries ≤ most_entries → length (set_after entries ops) ≤ most_entries
+few-set_after entries [] few = few
+few-set_after entries (op ∷ ops) few = few-set_after (absorbed entries op) ops (few-absorbed entries op few)
+
+-- ---- an association stands once
+
+abbrev pub Apart : Entry → Entry → Type 0
+Apart d e = d.association ≢ e.association
+
+other_than : (association : List ℕ) (e : Entry) → not (is_of association e) ≡ true → e.association ≢ association
+other_than association e kept same =
+    let no : is_of association e ≡ false = not-true (is_of association e) kept in
+    let yes : is_of association e ≡ true = (bytes_eq-Decides e.association association).1 same in
+    cc
+
+once-absorbed : (entries : List Entry) (op : Op) → AllPairs Apart entries → AllPairs Apart (absorbed entries op)
+unfolding absorbed
+once-absorbed entries (Add e) once =
+    let others : List Entry = without e.association entries in
+    cond_both (nat_le most_entries (length others)) entries (others ++ e ∷ []) (AllPairs Apart)
+    (λ _. once)
+    (λ _. all_pairs_push Apart others e (AllPairs-filter Apart (λ d. not (is_of e.association d)) entries once)
+    (λ k d inside. other_than e.association (get_or others k d) (filter_passes (λ d. not (is_of e.association d)) entries k d inside)))
+once-absorbed entries (Remove association) once =
+    AllPairs-filter Apart (λ d. not (is_of association d)) entries once
+
+pub once-set_after : (entries : List Entry) (ops : List Op) → AllPairs Apart entries → AllPairs Apart (set_after entries ops)
+once-set_after entries [] once = once
+once-set_after entries (op ∷ ops) once = once-set_after (absorbed entries op) ops (once-absorbed entries op once)
+
+-- The set of any list of adds and removals is one.
+pub IsSetOf-fold : (ops : List Op) → IsSetOf (fold_ops ops) ops
+IsSetOf-fold ops = record {
+  fold = refl;
+  once = once-set_after [] ops (λ i j d below inside. absurd (omega arith));
+  few = few-set_after [] ops (omega arith);
+  added = All-set_after (Contains (adds ops)) [] ops (All-nil (Contains (adds ops))) (All-contains_itself (adds ops));
+}

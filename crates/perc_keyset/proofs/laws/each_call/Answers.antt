@@ -1,0 +1,5 @@
+use Rattle.perc_keyset.proofs.PublishingLaws.{each_call}
+use Rattle.perc_keyset.proofs.laws.each_call.Goals as goal
+
+pub returns : goal.returns
+returns c = each_call

@@ -1,0 +1,4 @@
+pub mod Set
+pub mod History
+pub mod Publishing
+pub mod Calls
