@@ -11,8 +11,7 @@ use Rattle.perc_ohb.specs.Reading.{block_of}
 use Rattle.perc_ohb.specs.Rewriting.{restored}
 use Rattle.perc_ohb.specs.declared.block.Ohb.{Ohb}
 use Rattle.perc_ohb.specs.declared.block.OhbFault.{OhbFault}
-use Rattle.perc_ekt.specs.Field.{Field}
-use Rattle.perc_ekt.specs.Reading.{field_of}
+use Rattle.perc_ekt.specs.Field.{Field, field_of}
 use Rattle.perc_ekt.specs.declared.field.FieldFault.{FieldFault}
 use Rattle.perc_ekt.specs.declared.field.FieldFault.TheVariants as ekt
 use Rattle.perc_srtp.specs.Streams.{rx_place}

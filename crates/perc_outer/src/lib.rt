@@ -3,5 +3,7 @@
 #![tactic(auto)]
 
 mod fault;
+mod reaching;
 
 pub use fault::OuterFault;
+pub use reaching::Reached;
