@@ -1,5 +1,5 @@
 -- A sender's key, as a full field carries it: wrapped with its SSRC and its ROC under the EKT key (RFC 8870 section 4.1).
-use Rattle.std.specs.Prelude.{◌≡◌, ℕ, ◌+◌, ◌-◌, ◌^◌, ◌<◌, ◌⊎◌, ◌&&◌, ◌==◌, if◌then◌else◌, List, ◌∷◌, ◌++◌, length, take, drop, replicate, slice_index, Option, Some, None, Result, Err}
+use Rattle.std.specs.Prelude.{◌≡◌, ℕ, ◌+◌, ◌-◌, ◌^◌, ◌<◌, ◌&&◌, ◌==◌, if◌then◌else◌, List, ◌∷◌, ◌++◌, length, take, drop, replicate, slice_index, Option, Some, None, Result, Err}
 use Rattle.std.specs.Option.{ok_or}
 use Rattle.byteorder.specs.Endian.{big_bytes, big_number}
 use Rattle.perc_keywrap.specs.Unwrap.{unwrapped}
@@ -16,7 +16,7 @@ pub record WrappedKey : Type 0 where
   pub ssrc : ℕ
   pub roc : ℕ
 
--- The key has this length.
+-- The key has this length, and the SSRC and the ROC have 32 bits.
 pub record HasSize (size : ℕ) (k : WrappedKey) : Type 0 where
   pub len : length k.key ≡ size
   pub octets : (i : ℕ) → slice_index k.key i < 256
@@ -42,7 +42,11 @@ IsPlainText size key ssrc roc plain =
 unfoldable pub key_in : ℕ → List ℕ → Option WrappedKey
 key_in size plain =
     if length plain == size + 9 && slice_index plain 0 == size
-    then Some (record { key = take size (drop 1 plain); ssrc = big_number 4 (drop (size + 1) plain); roc = big_number 4 (drop (size + 5) plain) })
+    then Some (record {
+      key = take size (drop 1 plain);
+      ssrc = big_number 4 (drop (size + 1) plain);
+      roc = big_number 4 (drop (size + 5) plain);
+    })
     else None
 
 abbrev pub key_or_fault : ℕ → Option (List ℕ) → Result WrappedKey KeyFault

@@ -143,7 +143,8 @@ pub fn write_short(out: &mut [u8]) -> Option<usize>
 /// the wrapped key hasn't 16 to 4096 octets, a multiple of 8. Then `out` is as it was.
 #[tactic(auto, unfolding(crate::specs::Field::spelling))]
 pub fn write_full(spi: u16, epoch: u16, cipher: &[u8], out: &mut [u8]) -> Option<usize>
-    ensures length { SomeIff result (IsCipherLength (length cipher.now) × (length cipher.now + 7 ≤ length out.old)) (length cipher.now + 7) }
+    ensures length { SomeIff result (IsCipherLength (length cipher.now) × (length cipher.now + 7 ≤ length out.old))
+        (length cipher.now + 7) }
     ensures value { IfSome result (λ n. out.new ≡ spelling (Full cipher.now spi epoch) ++ drop n out.old) }
     ensures none { IfNone result (out.new ≡ out.old) }
 {

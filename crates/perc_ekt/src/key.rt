@@ -1,5 +1,5 @@
 // Keys wrapped and unwrapped.
-ghost use Rattle.std.specs.Prelude.{◌≡◌, ◌+◌, ◌<◌, ◌≤◌, ◌⊎◌, ◌++◌, length, drop, take, IfOk, IfSome, MatchOption, MatchResult};
+ghost use Rattle.std.specs.Prelude.{◌≡◌, ◌+◌, ◌<◌, ◌≤◌, ◌⊎◌, ◌++◌, length, drop, take, IfOk, IfSome, OnOk, MatchOption, MatchResult};
 ghost use Rattle.byteorder.specs.Endian.{big_bytes};
 ghost use Rattle.perc_aes.specs.Cipher.{IsKey};
 ghost use Rattle.perc_base.specs.Profile.{key_length};
@@ -84,6 +84,7 @@ pub fn unwrap_key(ekt: &AesKey, profile: Profile, cipher: &mut [u8]) -> Result<W
         (λ k. result ≡ Ok (unwrapped_as k.key k.ssrc k.roc))
         (λ fault. result ≡ Err fault) }
     ensures fits { IfOk result (λ w. IsUnwrapped (key_length profile) w) }
+    ensures key { OnOk result (IsKey ekt.now) }
 {
     let Ok(len) = unwrap(ekt, cipher) else {
         return Err(KeyFault::Unwrap);

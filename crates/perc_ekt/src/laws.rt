@@ -31,6 +31,7 @@ pub fn round_trip()
     ensures only { (ekt : List ℕ) (size : ℕ) (octets : List ℕ) (k : WrappedKey) → opened_key ekt size octets ≡ Ok k
         → HasSize size k × (octets ≡ wrapped_key ekt k) }
     ensures record { (r : EktKeyRecord) → IsRecord r → record_of r.len (record_octets r) ≡ Some r }
-    ensures record_only { (len : ℕ) (octets : List ℕ) (r : EktKeyRecord) → (len ≡ 16) ⊎ (len ≡ 32) → ((i : ℕ) → slice_index octets i < 256)
-        → record_of len octets ≡ Some r → IsRecord r × (r.len ≡ len) × (octets ≡ record_octets r) }
+    ensures record_only { (len : ℕ) (octets : List ℕ) (r : EktKeyRecord) → (len ≡ 16) ⊎ (len ≡ 32)
+        → ((i : ℕ) → slice_index octets i < 256) → record_of len octets ≡ Some r
+        → IsRecord r × (r.len ≡ len) × (octets ≡ record_octets r) }
 {}

@@ -18,7 +18,8 @@ use registers::{unwrap_registers, wrap_registers};
 /// its padding, go to the front of out, and the rest of it stays. None where the plain text is empty or out too short.
 pub fn wrap(key: &AesKey, plain: &[u8], out: &mut [u8]) -> Option<usize>
     requires { length plain.now ≤ 4096 }
-    ensures length { SomeIff result ((1 ≤ length plain.now) × (wrapped_length (length plain.now) ≤ length out.old)) (wrapped_length (length plain.now)) }
+    ensures length { SomeIff result ((1 ≤ length plain.now) × (wrapped_length (length plain.now) ≤ length out.old))
+        (wrapped_length (length plain.now)) }
     ensures value { IfSome result (λ n. out.new ≡ wrapped key.now plain.now ++ drop n out.old) }
     ensures wrapped { IfSome result (λ n. IsWrapped key.now plain.now (take n out.new)) }
     ensures none { IfNone result (out.new ≡ out.old) }

@@ -43,7 +43,8 @@ pub(crate) fn plain_length(octets: &[u8]) -> Option<usize>
     requires some { 16 ≤ length octets.now }
     requires few { length octets.now ≤ 4104 }
     requires whole { length octets.now % 8 ≡ 0 }
-    ensures none { MatchOption result ((plain : List ℕ) → length plain ≤ 4096 → prepared plain ≡ octets.now → ⊥) (λ n. prepared (take n (drop 8 octets.now)) ≡ octets.now) }
+    ensures none { MatchOption result ((plain : List ℕ) → length plain ≤ 4096 → prepared plain ≡ octets.now → ⊥)
+        (λ n. prepared (take n (drop 8 octets.now)) ≡ octets.now) }
     ensures some { MatchOption result (Unit {0}) (λ n. (1 ≤ n) × (n + 8 ≤ length octets.now)) }
 {
     let room = octets.len() - 8;

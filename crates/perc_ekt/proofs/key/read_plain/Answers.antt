@@ -1,4 +1,4 @@
-use Rattle.std.proofs.Common.{◌≡◌, ◌+◌, Some, length, take, drop, refl, sym, ap, ◌∙◌, arith, length-drop}
+use Rattle.std.proofs.Common.{◌≡◌, ◌+◌, Some, length, take, drop, refl, sym, ap, arith, length-drop}
 use Rattle.std.proofs.lemmas.List.{length-take-le}
 use Rattle.byteorder.specs.Endian.{big_number}
 use Rattle.perc_ekt.specs.Key.{stored}

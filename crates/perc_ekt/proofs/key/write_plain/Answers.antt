@@ -19,8 +19,8 @@ returns c =
     let o2 = put_mid 1 (length o1 - 1) o1 c.write_octets.new.out in
     let e1 : o1 ≡ (length key ∷ []) ++ drop 1 old = set_first old (length key) (omega arith) in
     let e2 = written_more (length key ∷ []) key old o1 c.write_octets.new.out 1 (length key) refl refl (omega arith) e1 c.write_octets.ensures in
-    let place : 1 + length key ≡ end = omega arith in
-    let e2' : o2 ≡ (length key ∷ key) ++ drop end old = e2 ∙ ap (λ (k : ℕ). (length key ∷ key) ++ drop k old) place in
+    let offset : 1 + length key ≡ end = omega arith in
+    let e2' : o2 ≡ (length key ∷ key) ++ drop end old = e2 ∙ ap (λ (k : ℕ). (length key ∷ key) ++ drop k old) offset in
     let e3 = written_more (length key ∷ key) numbers old o2 c.write_numbers.new.out end 8 (omega arith) refl (omega arith) e2' c.write_numbers.ensures in
     let last : end + 8 ≡ length key + 9 = omega arith in
     e3 ∙ ap (λ (k : ℕ). ((length key ∷ key) ++ numbers) ++ drop k old) last ∙ ap (λ (r : List ℕ). r ++ drop (length key + 9) old) (plain_parts key c.args.ssrc c.args.roc)

@@ -20,7 +20,12 @@ pub returns-then-word_at-ne-CONSTANT-clause-none : goal.returns-then-word_at-ne-
 returns-then-word_at-ne-CONSTANT-clause-none c = λ p few same.
     let s = c.args.octets.now in
     let n = c.word_at-len.result in
-    let words = words_of s p c.word_at.result n (record { small_first = omega arith; small_second = omega arith; is_first = c.word_at.ensures; is_second = c.word_at-len.ensures }) few same in
+    let words = words_of s p c.word_at.result n (record {
+      small_first = omega arith;
+      small_second = omega arith;
+      is_first = c.word_at.ensures;
+      is_second = c.word_at-len.ensures;
+    }) few same in
     elim c.then-word_at-ne-CONSTANT.branch [
       | then-word_at-ne-CONSTANT-via-then-word_at-ne-CONSTANT w ↦ omega arith
       | then-word_at-ne-CONSTANT-via-else-word_at-ne-CONSTANT+then-room-len w ↦ omega arith

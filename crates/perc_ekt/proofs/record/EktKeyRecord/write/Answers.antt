@@ -23,9 +23,9 @@ returns-clause-value c =
     let l2 : length (w1 ++ w2) ≡ end + 14 = length-append w1 w2 ∙ omega (arith, l1, length-append (big_bytes 2 (length r.salt)) r.salt, c.requires.salt) in
     let room : length old ≡ 53 = c.told-out in
     let e1 : c.write_part.new.out ≡ w1 ++ drop end old = c.write_part.ensures ∙ ap (λ (n : ℕ). (big_bytes 2 n ++ take r.len r.key) ++ drop (n + 2) old) lk in
-    let place : length r.salt + 2 ≡ 14 = omega (arith, c.requires.salt) in
+    let offset : length r.salt + 2 ≡ 14 = omega (arith, c.requires.salt) in
     let p2 : c.write_part-2.new.out ≡ w2 ++ drop 14 (mid_of end (53 - end) c.write_part.new.out) =
-    c.write_part-2.ensures ∙ ap (λ (k : ℕ). w2 ++ drop k (mid_of end (53 - end) c.write_part.new.out)) place in
+    c.write_part-2.ensures ∙ ap (λ (k : ℕ). w2 ++ drop k (mid_of end (53 - end) c.write_part.new.out)) offset in
     let o2 = put_mid end (53 - end) c.write_part.new.out c.write_part-2.new.out in
     let e2 : o2 ≡ (w1 ++ w2) ++ drop (end + 14) old =
     written_in 53 w1 w2 old c.write_part.new.out c.write_part-2.new.out end 14 l1 (length-append (big_bytes 2 (length r.salt)) r.salt ∙ omega (arith, c.requires.salt)) (omega arith) room e1 p2 in
