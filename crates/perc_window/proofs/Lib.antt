@@ -1,2 +1,2 @@
 pub mod IndexLaws
-mod Marks
+mod MarkLaws

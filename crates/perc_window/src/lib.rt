@@ -2,6 +2,7 @@
 //! (RFC 3711 sections 3.3.1 and 3.3.2).
 #![tactic(auto)]
 
+mod marks;
 mod window;
 
 pub use window::{Freshness, Window};

@@ -3,10 +3,8 @@ ghost use Rattle.std.specs.Prelude.{◌≡◌, ℕ, ◌-◌, ◌^◌, ◌<◌, i
 ghost use Rattle.perc_window.specs.Index.{nearest, IsNearest};
 ghost use Rattle.perc_window.specs.Replay.{freshness, freshness_at, greatest, StandsFor};
 
+use crate::marks::{Marked, PLACES};
 use std::marker::Model;
-
-/// How many indices behind the highest accepted one the window looks back.
-const PLACES: usize = 128;
 
 /// The end of the indices: the roll-over counter has 32 bits and the sequence number 16.
 const INDEX_END: u64 = 1 << 48;
@@ -34,7 +32,7 @@ pub enum Freshness {
 pub struct Window {
     highest: Option<u64>,
     /// Place k is for the index k behind the highest.
-    behind: [bool; PLACES],
+    behind: Marked,
 }
 
 impl Model for Window {
@@ -55,7 +53,7 @@ impl Window {
     {
         Window {
             highest: None,
-            behind: [false; PLACES],
+            behind: Marked::new(),
         }
     }
 
@@ -85,10 +83,10 @@ impl Window {
         if index > highest {
             return Freshness::Fresh;
         }
-        let place = (highest - index) as usize;
+        let place = highest - index;
         if place >= PLACES {
             Freshness::TooOld
-        } else if self.behind[place] {
+        } else if self.behind.has(place) {
             Freshness::Repeated
         } else {
             Freshness::Fresh
@@ -103,15 +101,15 @@ impl Window {
     {
         let ahead = match self.highest {
             Some(highest) if index <= highest => {
-                self.behind[(highest - index) as usize] = true;
+                self.behind.set(highest - index);
                 return;
             }
-            Some(highest) => (index - highest) as usize,
+            Some(highest) => index - highest,
             // Nothing was accepted, so no place is kept.
             None => PLACES,
         };
-        move_up(&mut self.behind, ahead);
-        self.behind[0] = true;
+        self.behind.move_up(ahead);
+        self.behind.set(0);
         self.highest = Some(index);
     }
 }
@@ -136,19 +134,11 @@ fn nearest_to(highest: u64, seq: u16) -> Option<u64>
     (index < INDEX_END).then_some(index)
 }
 
-// Moves each mark that many places up. The lowest places are then clear, and the marks past the end are gone.
-fn move_up(behind: &mut [bool], by: usize)
-    ensures { (k : ℕ) → k < length behind.old → slice_index_or behind.new k false ≡ (if nat_lt k by then false else slice_index_or behind.old (k - by) false) }
-{
-    let by = by.min(behind.len());
-    let kept = behind.len() - by;
-    behind.copy_within(..kept, by);
-    behind[..by].fill(false);
-}
-
 #[cfg(test)]
 mod tests {
     use super::*;
+    use std::process::Abort;
+    use std::test::Fail;
 
     // Accepts each index that is fresh, in turn.
     fn window_of(indices: &[u64]) -> Window {
@@ -159,6 +149,17 @@ mod tests {
             }
         }
         window
+    }
+
+    // Takes a packet of this index as a receiver does. Whether it was accepted.
+    fn receive(rt: &impl Abort, window: &mut Window, index: u64) -> bool {
+        let index = index % INDEX_END;
+        assert_eq!(rt; window.nearest((index % TURN) as u16), Some(index));
+        if window.fresh(index) != Freshness::Fresh {
+            return false;
+        }
+        window.mark(index);
+        true
     }
 
     #[test]
@@ -235,5 +236,32 @@ mod tests {
             let window = window_of(&[1000, 999, next]);
             assert_eq!(rt; window.fresh(index), want, "{index} after {next}");
         }
+    }
+
+    // One packet in four comes late, by up to 140 indices, and each thousandth leaps by 201. How many are accepted
+    // was counted apart, over the set of the accepted indices.
+    #[test]
+    fn late_ones_and_leaps(rt: HostRuntime) -> Result<(), Fail> {
+        const PACKETS: u64 = 1_000_000;
+        let mut window = Window::new();
+        let mut accepted: u64 = 0;
+        let mut state: u64 = 7741;
+        for sent in 0..PACKETS {
+            state = state
+                .wrapping_mul(6364136223846793005)
+                .wrapping_add(1442695040888963407);
+            let ahead = 1000 + sent + sent / 1000 * 200;
+            let late = if (state >> 62) == 0 {
+                (state >> 33) % 141
+            } else {
+                0
+            };
+            if receive(&rt, &mut window, ahead - late) {
+                accepted = accepted.wrapping_add(1);
+            }
+        }
+        println!(rt; "{accepted} of {PACKETS} packets")?;
+        assert_eq!(rt; accepted, 813_151);
+        Ok(())
     }
 }
