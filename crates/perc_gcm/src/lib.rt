@@ -9,11 +9,12 @@ mod counter;
 mod field;
 mod hash;
 pub mod laws;
+mod table;
 
 use counter::{add_key_stream, masked_counter};
-use field::product;
-use hash::{hash_key, hash_octets};
+use hash::{hash_octets, hash_table};
 use perc_aes::AesKey;
+pub use table::HTable;
 
 /// The tag is wrong for the additional data and the cipher text.
 #[derive(Clone, Copy, Debug, PartialEq, Eq)]
@@ -68,11 +69,11 @@ fn tag_of(key: &AesKey, iv: &[u8; 12], aad: &[u8], cipher: &[u8]) -> [u8; 16]
     ensures value { result ≡ tag key.now iv.now aad.now cipher.now }
     ensures key { IsKey key.now }
 {
-    let hash_key = hash_key(key);
+    let table = hash_table(key);
     let lengths = (8 * aad.len() as u128) << 64 | 8 * cipher.len() as u128;
-    let aad_hash = hash_octets(hash_key, 0, aad);
-    let text_hash = hash_octets(hash_key, aad_hash, cipher);
-    let hash = product(text_hash ^ lengths, hash_key);
+    let aad_hash = hash_octets(&table, 0, aad);
+    let text_hash = hash_octets(&table, aad_hash, cipher);
+    let hash = table.product(text_hash ^ lengths);
     let mask = masked_counter(key, iv, 0);
     (hash ^ u128::from_be_bytes(mask)).to_be_bytes()
 }

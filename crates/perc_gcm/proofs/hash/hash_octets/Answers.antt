@@ -1,19 +1,24 @@
-use Rattle.std.proofs.Common.{ℕ, ap, ◌∙◌, arith}
+use Rattle.std.proofs.Common.{ℕ, ap, refl, sym, ◌∙◌, arith, length, rules}
+use Rattle.std.proofs.lemmas.Bool.{eqb-true}
+use Rattle.perc_gcm.specs.Gcm.{element}
 use Rattle.perc_gcm.specs.Field.{add, product}
-use Rattle.perc_gcm.specs.Gcm.{block_at}
-use Rattle.perc_gcm.proofs.Blocks.{running_none, running_more, running_blocks, block_cut}
+use Rattle.perc_gcm.proofs.Blocks.{running_first, running_none, running_rest}
 use Rattle.perc_gcm.proofs.hash.hash_octets.Goals as goal
 
-pub loop-i-init : goal.loop-i-init
-loop-i-init c = running_none c.args.hash_key c.args.hash
+pub loop-block-preserved : goal.loop-block-preserved
+unfolding element
+loop-block-preserved c =
+    running_first c.args.table.now.h c.loop-block.hash c.product-hash.result c.from_be_bytes.result c.loop-block.rest.now c.in-Some.block.now c.in-Some.behind.now
+    (omega (arith, c.in-Some.ensures.variant.0 refl)) c.in-Some.ensures.cases.0 c.in-Some.ensures.cases.1 c.from_be_bytes.ensures c.product-hash.ensures
+    ∙ c.loop-block.invariant
 
-pub loop-i-preserved : goal.loop-i-preserved
-loop-i-preserved c =
-    c.product-hash.ensures
-    ∙ ap (λ (x : ℕ). product (add c.loop-i.hash x) c.args.hash_key) (c.element.ensures ∙ block_cut c.args.octets.now c.loop-i.i c.min.result c.min.ensures)
-    ∙ ap (λ (y : ℕ). product (add y (block_at c.args.octets.now c.loop-i.i)) c.args.hash_key) c.loop-i.invariant
-    ∙ running_more c.args.hash_key c.args.hash c.loop-i.i c.args.octets.now
+pub returns-then-is_empty : goal.returns-then-is_empty
+returns-then-is_empty c =
+    sym (running_none c.args.table.now.h c.loop-block.hash c.loop-block.rest.now (eqb-true (length c.loop-block.rest.now) 0 (sym c.is_empty.ensures ∙ c.if-is_empty.true))) ∙ c.loop-block.invariant
 
 pub returns : goal.returns
 returns c =
-    c.loop-i.invariant ∙ running_blocks c.args.hash_key c.args.hash c.loop-i.i c.args.octets.now (omega (arith, c.div_ceil-i-end.ensures))
+    c.product.ensures
+    ∙ ap (λ (x : ℕ). product (add c.loop-block.hash x) c.args.table.now.h) c.padded_element.ensures
+    ∙ running_rest c.args.table.now.h c.loop-block.hash c.loop-block.rest.now (search rules) (search rules)
+    ∙ c.loop-block.invariant

@@ -1,8 +1,11 @@
-use Rattle.std.proofs.Common.{◌≡◌, map}
-use Rattle.std.specs.List.{range_with_len}
-use Rattle.perc_gcm.specs.Gcm.{block_at}
+use Rattle.std.proofs.Common.{◌≡◌, length}
+use Rattle.perc_gcm.specs.Gcm.{blocks}
 use Rattle.perc_gcm.specs.Running.{running}
 use Rattle.perc_gcm.proofs.hash.hash_octets.Given as goal
 
-abbrev pub invariant-loop-i : goal.invariant-loop-i
-invariant-loop-i l = l.hash ≡ running l.hash_key l.fn.hash (map (λ k. block_at l.octets k) (range_with_len 0 l.i))
+abbrev pub invariant-loop-block : goal.invariant-loop-block
+invariant-loop-block l =
+    running l.table.h l.hash (blocks l.rest) ≡ running l.table.h l.fn.hash (blocks l.octets)
+
+abbrev pub decreases-loop-block : goal.decreases-loop-block
+decreases-loop-block l = length l.rest
