@@ -1,11 +1,11 @@
 -- A block as a number, and a number as a block.
-use Rattle.std.proofs.Common.{◌≡◌, ℕ, zero, suc, ◌+◌, ◌*◌, ◌/◌, ◌%◌, ◌^◌, ◌<◌, ◌≤◌, List, [], ◌∷◌, ◌++◌, length, take, drop, get_or, ⊎_elim, refl, sym, ◌∙◌, ap, arith}
+use Rattle.std.proofs.Common.{◌≡◌, ℕ, zero, suc, ◌+◌, ◌*◌, ◌/◌, ◌%◌, ◌^◌, ◌<◌, ◌≤◌, List, [], ◌∷◌, ◌++◌, length, take, drop, get_or, bit_xor, ⊎_elim, refl, sym, ◌∙◌, ap, arith}
 use Rattle.std.specs.Int.{w64, w128, byte_at, bytes_high_first, from_be_bytes, to_be_bytes}
 use Rattle.std.proofs.Math.Arith.{mod-mul}
 use Rattle.std.proofs.Math.Nat.{mul_comm, pow-suc}
 use Rattle.std.proofs.lemmas.Bool.{cases_lt}
 use Rattle.std.proofs.lemmas.List.{get_or-take, get_or-drop, get_or_past, length-take, length-drop, take-append-drop}
-use Rattle.std.proofs.lemmas.Nat.{be_bytes_8, same_from_place}
+use Rattle.std.proofs.lemmas.Nat.{be_bytes_8, pow-add, same_from_place, xor_mod, xor_shr}
 use Rattle.perc_aes.specs.Cipher.{IsBlock}
 use Rattle.perc_gcm.specs.Gcm.{element}
 
@@ -150,3 +150,31 @@ pub bytes_of_element : (a : List ℕ) → IsBlock a → to_be_bytes w128 (elemen
 bytes_of_element a block =
     element_injective (to_be_bytes w128 (element a)) a (IsBlock-bytes (element a)) block
     (element_of_bytes (element a) (element_fits a block))
+
+-- ---- sums
+
+power_of_256 : (k : ℕ) → 256 ^ k ≡ 2 ^ (8 * k)
+power_of_256 zero = refl
+power_of_256 (suc k) =
+    let more : 8 * k + 8 ≡ 8 * suc k = omega arith in
+    pow-suc 256 k ∙ ap (λ (x : ℕ). x * 256) (power_of_256 k) ∙ sym (pow-add 2 (8 * k) 8) ∙ ap (λ (n : ℕ). 2 ^ n) more
+
+byte_of_sum : (k x y : ℕ) → byte_at k (bit_xor x y) ≡ bit_xor (byte_at k x) (byte_at k y)
+byte_of_sum k x y =
+    let at_x : x / 2 ^ (8 * k) % 256 ≡ byte_at k x = ap (λ (p : ℕ). x / p % 256) (sym (power_of_256 k)) ∙ sym (byte_is k x) in
+    let at_y : y / 2 ^ (8 * k) % 256 ≡ byte_at k y = ap (λ (p : ℕ). y / p % 256) (sym (power_of_256 k)) ∙ sym (byte_is k y) in
+    byte_is k (bit_xor x y) ∙ ap (λ (p : ℕ). bit_xor x y / p % 256) (power_of_256 k)
+    ∙ ap (λ (v : ℕ). v % 256) (xor_shr x y (8 * k)) ∙ xor_mod (x / 2 ^ (8 * k)) (y / 2 ^ (8 * k)) 8
+    ∙ ap (λ (v : ℕ). bit_xor v (y / 2 ^ (8 * k) % 256)) at_x ∙ ap (λ (v : ℕ). bit_xor (byte_at k x) v) at_y
+
+bytes_of_sum : (n x y k : ℕ) → get_or (bytes_high_first n (bit_xor x y)) k 0 ≡ bit_xor (get_or (bytes_high_first n x) k 0) (get_or (bytes_high_first n y) k 0)
+bytes_of_sum zero x y k = refl
+bytes_of_sum (suc n) x y zero = byte_of_sum n x y
+bytes_of_sum (suc n) x y (suc k) = bytes_of_sum n x y k
+
+-- The sum of two blocks, octet by octet.
+pub octets_of_sum : (a b : List ℕ) (k : ℕ) → IsBlock a → IsBlock b → get_or (to_be_bytes w128 (bit_xor (element a) (element b))) k 0 ≡ bit_xor (get_or a k 0) (get_or b k 0)
+octets_of_sum a b k block_a block_b =
+    bytes_of_sum 16 (element a) (element b) k
+    ∙ ap (λ (xs : List ℕ). bit_xor (get_or xs k 0) (get_or (to_be_bytes w128 (element b)) k 0)) (bytes_of_element a block_a)
+    ∙ ap (λ (xs : List ℕ). bit_xor (get_or a k 0) (get_or xs k 0)) (bytes_of_element b block_b)
