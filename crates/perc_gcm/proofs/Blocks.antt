@@ -4,11 +4,11 @@ use Rattle.std.specs.Int.{byte_worth, sum_through, div_ceil}
 use Rattle.std.specs.List.{range_with_len}
 use Rattle.std.proofs.lemmas.Bool.{cases_lt}
 use Rattle.std.proofs.lemmas.List.{get_or-replicate, get_or_past, get_or-take, get_or-drop, get_or_append_left, get_or-append_right, length-take, length-drop, drop-drop, take_all}
-use Rattle.std.proofs.lemmas.Nat.{or_shifted}
+use Rattle.std.proofs.lemmas.Nat.{or_shifted, xor_lt}
 use Rattle.perc_gcm.specs.Field.{add, product, ghash}
 use Rattle.perc_gcm.specs.Gcm.{block_at, blocks, element, hashed, lengths}
 use Rattle.perc_gcm.specs.Running.{running}
-use Rattle.perc_gcm.proofs.FieldLaws.{running_hash}
+use Rattle.perc_gcm.proofs.FieldLaws.{Linear-left, product_assoc, running_hash}
 
 sum_same : (f g : ℕ → ℕ) (n : ℕ) → ((k : ℕ) → k ≤ n → f k ≡ g k) → sum_through f n ≡ sum_through g n
 sum_same f g zero same = same 0 (omega arith)
@@ -111,6 +111,44 @@ running_first h y z x octets block behind long block_is behind_is x_is z_is =
     ap (λ (xs : List ℕ). running h z (blocks xs)) behind_is
     ∙ ap (λ (v : ℕ). running h v (blocks (drop 16 octets))) (z_is ∙ ap (λ (v : ℕ). product (add y v) h) (x_is ∙ ap (λ (xs : List ℕ). element xs) block_is))
     ∙ ap (λ (xs : List ℕ). running h y xs) (sym (blocks_first octets long))
+
+-- two blocks in a row, by the square
+two_products : (h y a b : ℕ) → h < 2 ^ 128 → y < 2 ^ 128 → a < 2 ^ 128 → product (add (product (add y a) h) b) h ≡ add (product (add y a) (product h h)) (product b h)
+two_products h y a b h_fits y_fits a_fits =
+    (Linear-left h).sums (product (add y a) h) b
+    ∙ ap (λ (x : ℕ). add x (product b h)) (product_assoc (add y a) h h (xor_lt 128 y a y_fits a_fits) h_fits h_fits)
+
+-- the two blocks of 32 octets
+first_of_pair : (octets pair : List ℕ) → pair ≡ take 32 octets → element (take 16 pair) ≡ element (take 16 octets)
+first_of_pair octets pair pair_is =
+    element_same (take 16 pair) (take 16 octets)
+    (λ k inside.
+    get_or-take 16 pair k 0 inside ∙ ap (λ (xs : List ℕ). get_or xs k 0) pair_is
+    ∙ get_or-take 32 octets k 0 (omega arith) ∙ sym (get_or-take 16 octets k 0 inside))
+
+second_of_pair : (octets pair : List ℕ) → pair ≡ take 32 octets → element (take 16 (drop 16 pair)) ≡ element (take 16 (drop 16 octets))
+second_of_pair octets pair pair_is =
+    element_same (take 16 (drop 16 pair)) (take 16 (drop 16 octets))
+    (λ k inside.
+    get_or-take 16 (drop 16 pair) k 0 inside ∙ get_or-drop 16 pair k 0 ∙ ap (λ (xs : List ℕ). get_or xs (16 + k) 0) pair_is
+    ∙ get_or-take 32 octets (16 + k) 0 (omega arith) ∙ sym (get_or-drop 16 octets k 0) ∙ sym (get_or-take 16 (drop 16 octets) k 0 inside))
+
+-- two blocks are hashed
+pub running_pair : (h y z a b : ℕ) (octets pair behind : List ℕ) → h < 2 ^ 128 → y < 2 ^ 128 → a < 2 ^ 128 → 32 ≤ length octets
+    → pair ≡ take 32 octets → behind ≡ drop 32 octets → a ≡ element (take 16 pair) → b ≡ element (take 16 (drop 16 pair))
+    → z ≡ add (product (bit_xor y a) (product h h)) (product b h) → running h z (blocks behind) ≡ running h y (blocks octets)
+unfolding running
+running_pair h y z a b octets pair behind h_fits y_fits a_fits long pair_is behind_is a_is b_is z_is =
+    let rest = drop 16 octets in
+    let short : 16 ≤ length octets = omega arith in
+    let rest_long : 16 ≤ length rest = omega (arith, length-drop 16 octets) in
+    let both : blocks octets ≡ element (take 16 octets) ∷ element (take 16 rest) ∷ blocks behind =
+    blocks_first octets short ∙ ap (λ (xs : List ℕ). element (take 16 octets) ∷ xs) (blocks_first rest rest_long)
+    ∙ ap (λ (xs : List ℕ). element (take 16 octets) ∷ element (take 16 rest) ∷ blocks xs) (drop-drop 16 16 octets ∙ sym behind_is) in
+    ap (λ (v : ℕ). running h v (blocks behind)) (z_is ∙ sym (two_products h y a b h_fits y_fits a_fits)
+    ∙ ap (λ (v : ℕ). product (add (product (add y v) h) b) h) (a_is ∙ first_of_pair octets pair pair_is)
+    ∙ ap (λ (v : ℕ). product (add (product (add y (element (take 16 octets))) h) v) h) (b_is ∙ second_of_pair octets pair pair_is))
+    ∙ ap (λ (xs : List ℕ). running h y xs) (sym both)
 
 pub running_none : (h y : ℕ) (octets : List ℕ) → length octets ≡ 0 → running h y (blocks octets) ≡ y
 unfolding running

@@ -268,7 +268,7 @@ product_times_x a b p q =
     (Linear-compose times_x (λ b. product a b) Linear-times_x (Linear-right a))
     (λ k i. times_x_at a k p i) b q
 
-product_shifted : (n a b : ℕ) → a < 2 ^ 128 → b < 2 ^ 128 → product a (shifted b n) ≡ shifted (product a b) n
+pub product_shifted : (n a b : ℕ) → a < 2 ^ 128 → b < 2 ^ 128 → product a (shifted b n) ≡ shifted (product a b) n
 unfolding shifted
 product_shifted zero a b p q = refl
 product_shifted (suc n) a b p q =

@@ -5,9 +5,10 @@ use Rattle.std.proofs.Math.Arith.{mod-mul}
 use Rattle.std.proofs.Math.Nat.{mul_comm, pow-suc}
 use Rattle.std.proofs.lemmas.Bool.{cases_lt}
 use Rattle.std.proofs.lemmas.List.{get_or-take, get_or-drop, get_or_past, length-take, length-drop, take-append-drop}
-use Rattle.std.proofs.lemmas.Nat.{be_bytes_8, pow-add, same_from_place, xor_mod, xor_shr}
+use Rattle.std.proofs.lemmas.Nat.{be_bytes_8, from_be_bytes-to_be_bytes_8, pow-add, same_from_place, xor_mod, xor_shr}
 use Rattle.perc_aes.specs.Cipher.{IsBlock}
 use Rattle.perc_gcm.specs.Gcm.{element}
+use Rattle.perc_gcm.proofs.Blocks.{below_append}
 
 -- ---- octets
 
@@ -150,6 +151,19 @@ pub bytes_of_element : (a : List ℕ) → IsBlock a → to_be_bytes w128 (elemen
 bytes_of_element a block =
     element_injective (to_be_bytes w128 (element a)) a (IsBlock-bytes (element a)) block
     (element_of_bytes (element a) (element_fits a block))
+
+-- A block is two words of 64 bits.
+pub block_by_words : (n high low : ℕ) → n < 2 ^ 128 → high ≡ n / 2 ^ 64 → low ≡ n % 2 ^ 64 → to_be_bytes w64 high ++ to_be_bytes w64 low ≡ to_be_bytes w128 n
+block_by_words n high low fits high_is low_is =
+    let first = from_be_bytes-to_be_bytes_8 high (omega arith) in
+    let last = from_be_bytes-to_be_bytes_8 low (omega arith) in
+    let value : element (to_be_bytes w64 high ++ to_be_bytes w64 low) ≡ n =
+    halves (to_be_bytes w64 high ++ to_be_bytes w64 low)
+    ∙ ap (λ (x : ℕ). x * 2 ^ 64 + from_be_bytes w64 (to_be_bytes w64 low)) first
+    ∙ ap (λ (x : ℕ). high * 2 ^ 64 + x) last ∙ omega arith in
+    element_injective (to_be_bytes w64 high ++ to_be_bytes w64 low) (to_be_bytes w128 n)
+    (record { size = refl; octets = below_append 256 (to_be_bytes w64 high) (to_be_bytes w64 low) (bytes_below 8 high) (bytes_below 8 low) })
+    (IsBlock-bytes n) (value ∙ sym (element_of_bytes n fits))
 
 -- ---- sums
 

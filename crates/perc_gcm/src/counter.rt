@@ -3,6 +3,7 @@ ghost use Rattle.std.specs.Prelude.{◌≡◌, ℕ, ◌+◌, ◌*◌, ◌^◌, �
 ghost use Rattle.perc_aes.specs.Cipher.{aes};
 ghost use Rattle.perc_gcm.specs.Gcm.{ciphertext, counter_block};
 
+use crate::field::block_of;
 use perc_aes::AesKey;
 
 // The cipher of a counter block.
@@ -21,7 +22,7 @@ pub(crate) fn masked_counter(key: &AesKey, iv: &[u8; 12], count: u32) -> [u8; 16
 fn add_mask(block: &mut [u8; 16], mask: &[u8; 16])
     ensures { (k : ℕ) → k < 16 → slice_index block.new k ≡ bit_xor (slice_index block.old k) (slice_index mask.now k) }
 {
-    *block = (u128::from_be_bytes(*block) ^ u128::from_be_bytes(*mask)).to_be_bytes();
+    *block = block_of(u128::from_be_bytes(*block) ^ u128::from_be_bytes(*mask));
 }
 
 // Adds the first octets of a mask to at most a block.

@@ -14,7 +14,8 @@ mod table;
 mod tests;
 
 use counter::{add_key_stream, masked_counter};
-use hash::{hash_octets, hash_table};
+use field::block_of;
+use hash::{hash_octets, hash_tables};
 use perc_aes::AesKey;
 pub use table::HTable;
 
@@ -71,13 +72,13 @@ fn tag_of(key: &AesKey, iv: &[u8; 12], aad: &[u8], cipher: &[u8]) -> [u8; 16]
     ensures value { result ≡ tag key.now iv.now aad.now cipher.now }
     ensures key { IsKey key.now }
 {
-    let table = hash_table(key);
+    let tables = hash_tables(key);
     let lengths = (8 * aad.len() as u128) << 64 | 8 * cipher.len() as u128;
-    let aad_hash = hash_octets(&table, 0, aad);
-    let text_hash = hash_octets(&table, aad_hash, cipher);
-    let hash = table.product(text_hash ^ lengths);
+    let aad_hash = hash_octets(&tables, 0, aad);
+    let text_hash = hash_octets(&tables, aad_hash, cipher);
+    let hash = tables.once.whole.product(text_hash ^ lengths);
     let mask = masked_counter(key, iv, 0);
-    (hash ^ u128::from_be_bytes(mask)).to_be_bytes()
+    block_of(hash ^ u128::from_be_bytes(mask))
 }
 
 // Whether two tags are the same. It looks at all octets, whichever differ.

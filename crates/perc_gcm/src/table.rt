@@ -1,10 +1,10 @@
-// Products by one element, by a table.
-ghost use Rattle.std.specs.Prelude.{◌≡◌, ℕ, ◌<◌, slice_index};
-ghost use Rattle.perc_gcm.specs.Field.{product};
+// Products by one element, by tables.
+ghost use Rattle.std.specs.Prelude.{◌≡◌, ℕ, ◌*◌, ◌^◌, ◌<◌, slice_index};
+ghost use Rattle.perc_gcm.specs.Field.{add, product, shifted};
 ghost use Rattle.perc_gcm.specs.Gcm.{element};
 ghost use Rattle.perc_gcm.specs.Table.{polynomial};
 
-use crate::field::{times_x, times_x4};
+use crate::field::{block_of, times_x, times_x4, times_x8};
 use std::marker::Model;
 
 /// An element of the field of GHASH (SP 800-38D section 6.3), with its products by the sixteen polynomials of degree
@@ -31,7 +31,14 @@ impl HTable {
         ensures element { result.h ≡ element h.now }
         ensures entries { (i : ℕ) → i < 16 → slice_index result.entries i ≡ product (polynomial i) (element h.now) }
     {
-        let h = u128::from_be_bytes(*h);
+        HTable::of(u128::from_be_bytes(*h))
+    }
+
+    // The table of an element.
+    pub(crate) fn of(h: u128) -> HTable
+        ensures element { result.h ≡ h }
+        ensures entries { (i : ℕ) → i < 16 → slice_index result.entries i ≡ product (polynomial i) h }
+    {
         let h_x = times_x(h);
         let h_x2 = times_x(h_x);
         let h_x3 = times_x(h_x2);
@@ -48,7 +55,7 @@ impl HTable {
     pub fn times(&self, block: &mut [u8; 16])
         ensures { element block.new ≡ product (element block.old) self.now.h }
     {
-        *block = self.product(u128::from_be_bytes(*block)).to_be_bytes();
+        *block = block_of(self.product(u128::from_be_bytes(*block)));
     }
 
     // The product of an element and that of the table, from the last four coefficients to the first.
@@ -60,6 +67,76 @@ impl HTable {
         for _i in 0..32u32 {
             sum = times_x4(sum) ^ self.entries[(rest & 15) as usize];
             rest >>= 4;
+        }
+        sum
+    }
+
+    // The product by the polynomial that a nibble spells.
+    fn at(&self, nibble: u128) -> u128
+        requires { nibble < 16 }
+        ensures { result ≡ product (polynomial nibble) self.now.h }
+    {
+        self.entries[nibble as usize]
+    }
+}
+
+// The tables of an element and of it times x to the power 4, by which it is multiplied eight coefficients at a time.
+#[derive(Drop)]
+pub(crate) struct OctetTable {
+    pub(crate) whole: HTable,
+    moved: HTable,
+    pub(crate) ghost fits: { whole.h < 2 ^ 128 },
+    ghost is_moved: { moved.h ≡ shifted whole.h 4 },
+}
+
+impl OctetTable {
+    pub(crate) fn of(h: u128) -> OctetTable
+        ensures { result.whole.h ≡ h }
+    {
+        OctetTable {
+            whole: HTable::of(h),
+            moved: HTable::of(times_x4(h)),
+        }
+    }
+
+    // The product by the polynomial of degree below 8 that an octet spells.
+    fn at(&self, octet: u128) -> u128
+        requires { octet < 256 }
+        ensures { result ≡ product (octet * 2 ^ 120) self.now.whole.h }
+    {
+        self.whole.at(octet >> 4) ^ self.moved.at(octet & 15)
+    }
+}
+
+// The tables of an element and of its square, by which two elements are multiplied at once.
+#[derive(Drop)]
+pub(crate) struct PairTable {
+    pub(crate) once: OctetTable,
+    twice: OctetTable,
+    ghost is_square: { twice.whole.h ≡ product once.whole.h once.whole.h },
+}
+
+impl PairTable {
+    pub(crate) fn of(h: u128) -> PairTable
+        ensures { result.once.whole.h ≡ h }
+    {
+        let once = OctetTable::of(h);
+        let twice = OctetTable::of(once.whole.product(h));
+        PairTable { once, twice }
+    }
+
+    // The product of one element and the square, and that of another and the element, added. A block that comes one
+    // before another is multiplied once more than that one.
+    pub(crate) fn products(&self, first: u128, second: u128) -> u128
+        ensures { result ≡ add (product first (product self.now.once.whole.h self.now.once.whole.h)) (product second self.now.once.whole.h) }
+    {
+        let mut more = first;
+        let mut rest = second;
+        let mut sum = 0;
+        for _i in 0..16u32 {
+            sum = times_x8(sum) ^ self.twice.at(more & 255) ^ self.once.at(rest & 255);
+            more >>= 8;
+            rest >>= 8;
         }
         sum
     }

@@ -3,9 +3,9 @@ use Rattle.perc_gcm.specs.Gcm.{blocks}
 use Rattle.perc_gcm.specs.Running.{running}
 use Rattle.perc_gcm.proofs.hash.hash_octets.Given as goal
 
-abbrev pub invariant-loop-block : goal.invariant-loop-block
-invariant-loop-block l =
-    running l.table.h l.hash (blocks l.rest) ≡ running l.table.h l.fn.hash (blocks l.octets)
+abbrev pub invariant-loop-pair : goal.invariant-loop-pair
+invariant-loop-pair l =
+    running l.tables.once.whole.h l.hash (blocks l.rest) ≡ running l.tables.once.whole.h l.fn.hash (blocks l.octets)
 
-abbrev pub decreases-loop-block : goal.decreases-loop-block
-decreases-loop-block l = length l.rest
+abbrev pub decreases-loop-pair : goal.decreases-loop-pair
+decreases-loop-pair l = length l.rest

@@ -1,7 +1,7 @@
 use Rattle.std.proofs.Common.{List, ℕ, ap, ◌∙◌, ◌++◌, drop, length, replicate}
 use Rattle.perc_gcm.specs.Gcm.{element}
 use Rattle.perc_gcm.proofs.Blocks.{element_padded}
-use Rattle.perc_gcm.proofs.hash.padded_element.Goals as goal
+use Rattle.perc_gcm.proofs.hash.element.Goals as goal
 
 pub returns : goal.returns
 unfolding element

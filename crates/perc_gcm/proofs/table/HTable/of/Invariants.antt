@@ -1,7 +1,7 @@
 use Rattle.std.proofs.Common.{◌≡◌, ℕ, ◌<◌, get_or, length}
 use Rattle.perc_gcm.specs.Field.{product}
 use Rattle.perc_gcm.specs.Table.{polynomial}
-use Rattle.perc_gcm.proofs.table.HTable.new.Given as goal
+use Rattle.perc_gcm.proofs.table.HTable.of.Given as goal
 
 abbrev pub invariant-loop-i : goal.invariant-loop-i
 invariant-loop-i l = record {
