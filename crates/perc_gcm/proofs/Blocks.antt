@@ -1,15 +1,14 @@
 -- The blocks of a list of octets, one by one.
-use Rattle.std.proofs.Common.{◌≡◌, ℕ, zero, suc, ◌+◌, ◌-◌, ◌*◌, ◌%◌, ◌^◌, ◌<◌, ◌≤◌, min, List, [], ◌∷◌, ◌++◌, length, map, take, drop, replicate, get_or, bit_or, ⊎_elim, refl, sym, ◌∙◌, ap, arith, zero-add}
+use Rattle.std.proofs.Common.{◌≡◌, ℕ, zero, suc, ◌+◌, ◌-◌, ◌*◌, ◌%◌, ◌^◌, ◌<◌, ◌≤◌, List, [], ◌∷◌, ◌++◌, length, map, take, drop, replicate, get_or, bit_or, bit_xor, ⊎_elim, refl, sym, ◌∙◌, ap, arith}
 use Rattle.std.specs.Int.{byte_worth, sum_through, div_ceil}
 use Rattle.std.specs.List.{range_with_len}
 use Rattle.std.proofs.lemmas.Bool.{cases_lt}
-use Rattle.std.proofs.lemmas.List.{get_or-replicate, get_or_past, get_or-take, get_or-drop, get_or_append_left, get_or-append_right, length-take, take_rest, take_min}
-use Rattle.std.proofs.lemmas.List.FromFn.{map-range_with_len_more}
-use Rattle.std.proofs.lemmas.Nat.{or_shifted}
+use Rattle.std.proofs.lemmas.List.{get_or-replicate, get_or_past, get_or-take, get_or-drop, get_or_append_left, get_or-append_right, length-take, length-drop, drop-drop, take_all}
+use Rattle.std.proofs.lemmas.Nat.{or_shifted, xor_lt}
 use Rattle.perc_gcm.specs.Field.{add, product, ghash}
 use Rattle.perc_gcm.specs.Gcm.{block_at, blocks, element, hashed, lengths}
 use Rattle.perc_gcm.specs.Running.{running}
-use Rattle.perc_gcm.proofs.FieldLaws.{running_hash}
+use Rattle.perc_gcm.proofs.FieldLaws.{Linear-left, product_assoc, running_hash}
 
 sum_same : (f g : ℕ → ℕ) (n : ℕ) → ((k : ℕ) → k ≤ n → f k ≡ g k) → sum_through f n ≡ sum_through g n
 sum_same f g zero same = same 0 (omega arith)
@@ -65,10 +64,6 @@ element_padded octets short =
 
 -- ---- the running hash
 
-pub running_none : (h y : ℕ) → y ≡ running h y []
-unfolding running
-running_none h y = refl
-
 pub running_append : (h y : ℕ) (xs ys : List ℕ) → running h y (xs ++ ys) ≡ running h (running h y xs) ys
 unfolding running
 running_append h y [] ys = refl
@@ -78,26 +73,91 @@ pub running_last : (h y x : ℕ) → product (add y x) h ≡ running h y (x ∷ 
 unfolding running
 running_last h y x = refl
 
--- one block more
-pub running_more : (h y i : ℕ) (octets : List ℕ) → product (add (running h y (map (λ k. block_at octets k) (range_with_len 0 i))) (block_at octets i)) h ≡ running h y (map (λ k. block_at octets k) (range_with_len 0 (i + 1)))
-running_more h y i octets =
-    running_last h (running h y (map (λ k. block_at octets k) (range_with_len 0 i))) (block_at octets i)
-    ∙ sym (running_append h y (map (λ k. block_at octets k) (range_with_len 0 i)) (block_at octets i ∷ []))
-    ∙ ap (λ (xs : List ℕ). running h y xs) (sym (map-range_with_len_more (λ k. block_at octets k) 0 i i (zero-add i)))
+-- blocks from place a on are those of the rest from 0 on
+blocks_from : (octets : List ℕ) (n a : ℕ) → map (λ k. block_at octets k) (range_with_len (a + 1) n) ≡ map (λ k. block_at (drop 16 octets) k) (range_with_len a n)
+blocks_from octets zero a = refl
+blocks_from octets (suc n) a =
+    let place : 16 + 16 * a ≡ 16 * (a + 1) = omega arith in
+    ap (λ (x : ℕ). x ∷ map (λ k. block_at octets k) (range_with_len (a + 1 + 1) n))
+    (ap (λ (j : ℕ). element (take 16 (drop j octets))) (sym place) ∙ ap (λ (xs : List ℕ). element (take 16 xs)) (sym (drop-drop (16 * a) 16 octets)))
+    ∙ ap (λ (xs : List ℕ). block_at (drop 16 octets) a ∷ xs) (blocks_from octets n (a + 1))
 
--- the block as the body cuts it out
-pub block_cut : (octets : List ℕ) (i m : ℕ) → m ≡ min (length (take (length octets - 16 * i) (drop (16 * i) octets))) 16 → element (take m (take (length octets - 16 * i) (drop (16 * i) octets))) ≡ block_at octets i
-block_cut octets i m m_is =
-    let rest = take_rest octets (16 * i) in
-    let size : m ≡ min 16 (length (drop (16 * i) octets)) = omega (arith, m_is, ap (λ (xs : List ℕ). length xs) rest) in
-    ap (λ (xs : List ℕ). element (take m xs)) rest
-    ∙ ap (λ (n : ℕ). element (take n (drop (16 * i) octets))) size
-    ∙ ap (λ (xs : List ℕ). element xs) (take_min 16 (drop (16 * i) octets))
-
-pub running_blocks : (h y i : ℕ) (octets : List ℕ) → i ≡ div_ceil (length octets) 16 → running h y (map (λ k. block_at octets k) (range_with_len 0 i)) ≡ running h y (blocks octets)
+-- the first block of sixteen octets or more
+pub blocks_first : (octets : List ℕ) → 16 ≤ length octets → blocks octets ≡ element (take 16 octets) ∷ blocks (drop 16 octets)
 unfolding blocks
-running_blocks h y i octets e =
-    ap (λ (n : ℕ). running h y (map (λ k. block_at octets k) (range_with_len 0 n))) e
+blocks_first octets long =
+    let size = length-drop 16 octets in
+    let count : div_ceil (length octets) 16 ≡ suc (div_ceil (length (drop 16 octets)) 16) = omega arith in
+    ap (λ (n : ℕ). map (λ k. block_at octets k) (range_with_len 0 n)) count
+    ∙ ap (λ (xs : List ℕ). block_at octets 0 ∷ xs) (blocks_from octets (div_ceil (length (drop 16 octets)) 16) 0)
+
+-- no octets have no block
+pub blocks_none : (octets : List ℕ) → length octets ≡ 0 → blocks octets ≡ []
+unfolding blocks
+blocks_none octets none = ap (λ (n : ℕ). map (λ k. block_at octets k) (range_with_len 0 (div_ceil n 16))) none
+
+-- and up to sixteen have one
+pub blocks_one : (octets : List ℕ) → 0 < length octets → length octets ≤ 16 → blocks octets ≡ element octets ∷ []
+unfolding blocks
+blocks_one octets some short =
+    let count : div_ceil (length octets) 16 ≡ 1 = omega arith in
+    ap (λ (n : ℕ). map (λ k. block_at octets k) (range_with_len 0 n)) count
+    ∙ ap (λ (xs : List ℕ). element xs ∷ []) (take_all 16 octets short)
+
+-- one block is hashed
+pub running_first : (h y z x : ℕ) (octets block behind : List ℕ) → 16 ≤ length octets → block ≡ take 16 octets → behind ≡ drop 16 octets → x ≡ element block → z ≡ product (bit_xor y x) h → running h z (blocks behind) ≡ running h y (blocks octets)
+unfolding running
+running_first h y z x octets block behind long block_is behind_is x_is z_is =
+    ap (λ (xs : List ℕ). running h z (blocks xs)) behind_is
+    ∙ ap (λ (v : ℕ). running h v (blocks (drop 16 octets))) (z_is ∙ ap (λ (v : ℕ). product (add y v) h) (x_is ∙ ap (λ (xs : List ℕ). element xs) block_is))
+    ∙ ap (λ (xs : List ℕ). running h y xs) (sym (blocks_first octets long))
+
+-- two blocks in a row, by the square
+two_products : (h y a b : ℕ) → h < 2 ^ 128 → y < 2 ^ 128 → a < 2 ^ 128 → product (add (product (add y a) h) b) h ≡ add (product (add y a) (product h h)) (product b h)
+two_products h y a b h_fits y_fits a_fits =
+    (Linear-left h).sums (product (add y a) h) b
+    ∙ ap (λ (x : ℕ). add x (product b h)) (product_assoc (add y a) h h (xor_lt 128 y a y_fits a_fits) h_fits h_fits)
+
+-- the two blocks of 32 octets
+first_of_pair : (octets pair : List ℕ) → pair ≡ take 32 octets → element (take 16 pair) ≡ element (take 16 octets)
+first_of_pair octets pair pair_is =
+    element_same (take 16 pair) (take 16 octets)
+    (λ k inside.
+    get_or-take 16 pair k 0 inside ∙ ap (λ (xs : List ℕ). get_or xs k 0) pair_is
+    ∙ get_or-take 32 octets k 0 (omega arith) ∙ sym (get_or-take 16 octets k 0 inside))
+
+second_of_pair : (octets pair : List ℕ) → pair ≡ take 32 octets → element (take 16 (drop 16 pair)) ≡ element (take 16 (drop 16 octets))
+second_of_pair octets pair pair_is =
+    element_same (take 16 (drop 16 pair)) (take 16 (drop 16 octets))
+    (λ k inside.
+    get_or-take 16 (drop 16 pair) k 0 inside ∙ get_or-drop 16 pair k 0 ∙ ap (λ (xs : List ℕ). get_or xs (16 + k) 0) pair_is
+    ∙ get_or-take 32 octets (16 + k) 0 (omega arith) ∙ sym (get_or-drop 16 octets k 0) ∙ sym (get_or-take 16 (drop 16 octets) k 0 inside))
+
+-- two blocks are hashed
+pub running_pair : (h y z a b : ℕ) (octets pair behind : List ℕ) → h < 2 ^ 128 → y < 2 ^ 128 → a < 2 ^ 128 → 32 ≤ length octets
+    → pair ≡ take 32 octets → behind ≡ drop 32 octets → a ≡ element (take 16 pair) → b ≡ element (take 16 (drop 16 pair))
+    → z ≡ add (product (bit_xor y a) (product h h)) (product b h) → running h z (blocks behind) ≡ running h y (blocks octets)
+unfolding running
+running_pair h y z a b octets pair behind h_fits y_fits a_fits long pair_is behind_is a_is b_is z_is =
+    let rest = drop 16 octets in
+    let short : 16 ≤ length octets = omega arith in
+    let rest_long : 16 ≤ length rest = omega (arith, length-drop 16 octets) in
+    let both : blocks octets ≡ element (take 16 octets) ∷ element (take 16 rest) ∷ blocks behind =
+    blocks_first octets short ∙ ap (λ (xs : List ℕ). element (take 16 octets) ∷ xs) (blocks_first rest rest_long)
+    ∙ ap (λ (xs : List ℕ). element (take 16 octets) ∷ element (take 16 rest) ∷ blocks xs) (drop-drop 16 16 octets ∙ sym behind_is) in
+    ap (λ (v : ℕ). running h v (blocks behind)) (z_is ∙ sym (two_products h y a b h_fits y_fits a_fits)
+    ∙ ap (λ (v : ℕ). product (add (product (add y v) h) b) h) (a_is ∙ first_of_pair octets pair pair_is)
+    ∙ ap (λ (v : ℕ). product (add (product (add y (element (take 16 octets))) h) v) h) (b_is ∙ second_of_pair octets pair pair_is))
+    ∙ ap (λ (xs : List ℕ). running h y xs) (sym both)
+
+pub running_none : (h y : ℕ) (octets : List ℕ) → length octets ≡ 0 → running h y (blocks octets) ≡ y
+unfolding running
+running_none h y octets none = ap (λ (xs : List ℕ). running h y xs) (blocks_none octets none)
+
+-- the last block is hashed
+pub running_rest : (h y : ℕ) (octets : List ℕ) → 0 < length octets → length octets ≤ 16 → product (bit_xor y (element octets)) h ≡ running h y (blocks octets)
+running_rest h y octets some short =
+    running_last h y (element octets) ∙ ap (λ (xs : List ℕ). running h y xs) (sym (blocks_one octets some short))
 
 -- ---- what is hashed
 

@@ -112,7 +112,7 @@ shifted_times_x zero a = refl
 shifted_times_x (suc n) a = ap times_x (shifted_times_x n a)
 
 -- two functions that agree along a list of the numbers below n agree at each
-same_along : (n : ℕ) (f g : ℕ → ℕ) → map f (range_with_len 0 n) ≡ map g (range_with_len 0 n) → (b : ℕ) → b < n → f b ≡ g b
+pub same_along : (n : ℕ) (f g : ℕ → ℕ) → map f (range_with_len 0 n) ≡ map g (range_with_len 0 n) → (b : ℕ) → b < n → f b ≡ g b
 same_along n f g same b in_range =
     sym (get_or-map-range_with_len f 0 n b b 0 in_range (omega arith))
     ∙ ap (λ (xs : List ℕ). get_or xs b 0) same
@@ -268,7 +268,7 @@ product_times_x a b p q =
     (Linear-compose times_x (λ b. product a b) Linear-times_x (Linear-right a))
     (λ k i. times_x_at a k p i) b q
 
-product_shifted : (n a b : ℕ) → a < 2 ^ 128 → b < 2 ^ 128 → product a (shifted b n) ≡ shifted (product a b) n
+pub product_shifted : (n a b : ℕ) → a < 2 ^ 128 → b < 2 ^ 128 → product a (shifted b n) ≡ shifted (product a b) n
 unfolding shifted
 product_shifted zero a b p q = refl
 product_shifted (suc n) a b p q =
@@ -337,7 +337,7 @@ times_x_left (suc n) a b =
     ∙ ap (λ (x : ℕ). add (times_x (product_below n a b)) x) (term_times_x (nat_eq (coefficient b n) 1) n a)
     ∙ sym (Linear-times_x.sums (product_below n a b) (if nat_eq (coefficient b n) 1 then shifted a n else 0))
 
-shifted_left : (n a b : ℕ) → product (shifted a n) b ≡ shifted (product a b) n
+pub shifted_left : (n a b : ℕ) → product (shifted a n) b ≡ shifted (product a b) n
 unfolding shifted product
 shifted_left zero a b = refl
 shifted_left (suc n) a b = times_x_left 128 (shifted a n) b ∙ ap times_x (shifted_left n a b)

@@ -1,5 +1,5 @@
 -- Laws of the mode: the lengths and octets of what it makes, and that a text can be had back.
-use Rattle.std.proofs.Common.{◌≡◌, ◌↔◌, ℕ, zero, suc, ◌+◌, ◌-◌, ◌*◌, ◌/◌, ◌%◌, ◌^◌, ◌<◌, ◌≤◌, nat_le, Bool, true, false, IsTrue, if◌then◌else◌, ◌&&◌, Option, None, Some, List, [], ◌∷◌, ◌++◌, length, take, drop, get_or, bit_xor, ⊎_elim, refl, sym, ◌∙◌, ap, arith}
+use Rattle.std.proofs.Common.{◌≡◌, ◌↔◌, ℕ, zero, suc, ◌+◌, ◌-◌, ◌*◌, ◌/◌, ◌%◌, ◌^◌, ◌<◌, ◌≤◌, nat_le, Bool, true, false, IsTrue, if◌then◌else◌, ◌&&◌, Option, None, Some, List, [], ◌∷◌, ◌++◌, length, take, drop, replicate, get_or, bit_xor, ⊎_elim, refl, sym, ◌∙◌, ap, arith}
 use Rattle.std.specs.Int.{w32, w64, w128, byte_at, bytes_high_first, from_be_bytes, to_be_bytes}
 use Rattle.std.specs.Int.Bits.{xor_self, xor_zero_l, xor_zero_r, xor_assoc}
 use Rattle.std.proofs.Math.Arith.{mod-mul}
@@ -14,6 +14,8 @@ use Rattle.perc_aes.proofs.CipherLaws.{IsBlock-aes, aes_injective}
 use Rattle.perc_gcm.specs.Field.{ghash}
 use Rattle.perc_gcm.specs.Gcm.{Verifies, cipher_part, ciphertext, counter_block, element, hash_key, hashed, inc32, key_stream, sealed_text, tag, tag_part, unsealed_text, verifies}
 use Rattle.perc_gcm.proofs.Blocks.{below_append, element_is_element}
+use Rattle.perc_gcm.proofs.Numbers.{bytes_below, element_fits, number_of_octets, take_below}
+pub use Rattle.perc_gcm.proofs.Numbers.{element_injective}
 
 -- ---- texts
 
@@ -47,23 +49,6 @@ ciphertext_injective key iv a b same =
     sym (ciphertext_twice key iv a) ∙ ap (λ (c : List ℕ). ciphertext key iv c) same ∙ ciphertext_twice key iv b
 
 -- ---- octets
-
-byte_below : (k n : ℕ) → byte_at k n < 256
-byte_below zero n = omega arith
-byte_below (suc k) n = omega arith
-
-bytes_below : (k n j : ℕ) → get_or (bytes_high_first k n) j 0 < 256
-bytes_below zero n j = omega arith
-bytes_below (suc k) n zero = byte_below k n
-bytes_below (suc k) n (suc j) = bytes_below k n j
-
-take_below : (n : ℕ) (xs : List ℕ) → ((k : ℕ) → get_or xs k 0 < 256) → (k : ℕ) → get_or (take n xs) k 0 < 256
-take_below n xs all k =
-    ⊎_elim (λ (inside : k < n). omega (arith, get_or-take n xs k 0 inside, all k))
-    (λ (past : n ≤ k).
-    let short : length (take n xs) ≤ k = omega (arith, length-take n xs) in
-    omega (arith, get_or_past (take n xs) k 0 short))
-    (cases_lt k n)
 
 first_octets : (k : ℕ) → get_or (0 ∷ 0 ∷ 0 ∷ 1 ∷ []) k 0 < 256
 first_octets zero = omega arith
@@ -112,6 +97,17 @@ ciphertext_octets key iv text is size iv_octets octets k =
     (cases_lt k (length text))
 
 -- ---- tags
+
+zeros_at : (n k : ℕ) → get_or (replicate n 0) k 0 < 256
+zeros_at zero k = omega arith
+zeros_at (suc n) zero = omega arith
+zeros_at (suc n) (suc k) = zeros_at n k
+
+-- The hash key is an element.
+pub hash_key_fits : (key : List ℕ) → IsKey key → hash_key key < 2 ^ 128
+unfolding hash_key
+hash_key_fits key is =
+    element_fits (aes key (replicate 16 0)) (IsBlock-aes key (replicate 16 0) is (record { size = refl; octets = zeros_at 16 }))
 
 -- A tag has 16 octets.
 pub length-tag : (key iv aad cipher : List ℕ) → length (tag key iv aad cipher) ≡ 16
@@ -242,29 +238,6 @@ sealed_injective key iv aad a b same =
 
 -- ---- one IV
 
-byte_is : (k n : ℕ) → byte_at k n ≡ n / 256 ^ k % 256
-byte_is zero n = omega arith
-byte_is (suc k) n = refl
-
-pow_positive : (k : ℕ) → 0 < 256 ^ k
-pow_positive zero = omega arith
-pow_positive (suc k) = omega (arith, pow-suc 256 k, pow_positive k)
-
-one_octet_more : (k n : ℕ) → n % 256 ^ suc k ≡ byte_at k n * 256 ^ k + n % 256 ^ k
-one_octet_more k n =
-    let power : 256 ^ suc k ≡ 256 * 256 ^ k = pow-suc 256 k ∙ mul_comm (256 ^ k) 256 in
-    ap (λ (m : ℕ). n % m) power ∙ mod-mul n {m = 256} {c = 256 ^ k} (omega arith) (pow_positive k)
-    ∙ ap (λ (b : ℕ). b * 256 ^ k + n % 256 ^ k) (sym (byte_is k n))
-
--- the lowest k octets of a number are the number modulo 256^k
-number_of_octets : (k m n : ℕ) → bytes_high_first k m ≡ bytes_high_first k n → m % 256 ^ k ≡ n % 256 ^ k
-number_of_octets zero m n same = omega arith
-number_of_octets (suc k) m n same =
-    let first : byte_at k m ≡ byte_at k n = ap (λ (xs : List ℕ). get_or xs 0 0) same in
-    let rest = number_of_octets k m n (ap (λ (xs : List ℕ). drop 1 xs) same) in
-    one_octet_more k m ∙ ap (λ (b : ℕ). b * 256 ^ k + m % 256 ^ k) first ∙ ap (λ (x : ℕ). byte_at k n * 256 ^ k + x) rest
-    ∙ sym (one_octet_more k n)
-
 xor_cancel : (g a b : ℕ) → bit_xor g a ≡ bit_xor g b → a ≡ b
 xor_cancel g a b same =
     sym (xor_zero_l a) ∙ ap (λ (x : ℕ). bit_xor x a) (sym (xor_self g)) ∙ xor_assoc g g a
@@ -277,63 +250,6 @@ masks_same g a b same p q =
     let sums : bit_xor g a % 2 ^ 128 ≡ bit_xor g b % 2 ^ 128 = number_of_octets 16 (bit_xor g a) (bit_xor g b) same in
     let masks = xor_cancel (g % 2 ^ 128) (a % 2 ^ 128) (b % 2 ^ 128) (sym (xor_mod g a 128) ∙ sums ∙ xor_mod g b 128) in
     omega arith
-
-halves : (a : List ℕ) → element a ≡ from_be_bytes w64 (take 8 a) * 2 ^ 64 + from_be_bytes w64 (drop 8 a)
-unfolding element
-halves a =
-    omega (
-      arith,
-      get_or-take 8 a 0 0 (omega arith),
-      get_or-take 8 a 1 0 (omega arith),
-      get_or-take 8 a 2 0 (omega arith),
-      get_or-take 8 a 3 0 (omega arith),
-      get_or-take 8 a 4 0 (omega arith),
-      get_or-take 8 a 5 0 (omega arith),
-      get_or-take 8 a 6 0 (omega arith),
-      get_or-take 8 a 7 0 (omega arith),
-      get_or-drop 8 a 0 0,
-      get_or-drop 8 a 1 0,
-      get_or-drop 8 a 2 0,
-      get_or-drop 8 a 3 0,
-      get_or-drop 8 a 4 0,
-      get_or-drop 8 a 5 0,
-      get_or-drop 8 a 6 0,
-      get_or-drop 8 a 7 0,
-    )
-
-word_fits : (a : List ℕ) → ((k : ℕ) → get_or a k 0 < 256) → from_be_bytes w64 a < 2 ^ 64
-word_fits a octets =
-    let h0 = octets 0 in
-    let h1 = octets 1 in
-    let h2 = octets 2 in
-    let h3 = octets 3 in
-    let h4 = octets 4 in
-    let h5 = octets 5 in
-    let h6 = octets 6 in
-    let h7 = octets 7 in
-    omega arith
-
-drop_below : (n : ℕ) (xs : List ℕ) → ((k : ℕ) → get_or xs k 0 < 256) → (k : ℕ) → get_or (drop n xs) k 0 < 256
-drop_below n xs all k = omega (arith, get_or-drop n xs k 0, all (n + k))
-
-word_injective : (a b : List ℕ) → length a ≡ 8 → length b ≡ 8 → ((k : ℕ) → get_or a k 0 < 256) → ((k : ℕ) → get_or b k 0 < 256) → from_be_bytes w64 a ≡ from_be_bytes w64 b → a ≡ b
-word_injective a b size_a size_b octets_a octets_b same =
-    sym (be_bytes_8 a (from_be_bytes w64 a) size_a octets_a refl) ∙ be_bytes_8 b (from_be_bytes w64 a) size_b octets_b same
-
--- Blocks with one element are one block.
-pub element_injective : (a b : List ℕ) → IsBlock a → IsBlock b → element a ≡ element b → a ≡ b
-element_injective a b block_a block_b same =
-    let size_a = block_a.size in
-    let size_b = block_b.size in
-    let first_a = take_below 8 a block_a.octets in
-    let first_b = take_below 8 b block_b.octets in
-    let last_a = drop_below 8 a block_a.octets in
-    let last_b = drop_below 8 b block_b.octets in
-    let numbers = same_from_place (from_be_bytes w64 (take 8 a)) (from_be_bytes w64 (drop 8 a)) (from_be_bytes w64 (take 8 b)) (from_be_bytes w64 (drop 8 b)) (2 ^ 64)
-    (word_fits (drop 8 a) last_a) (word_fits (drop 8 b) last_b) (sym (halves a) ∙ same ∙ halves b) in
-    let first : take 8 a ≡ take 8 b = word_injective (take 8 a) (take 8 b) (omega (arith, length-take 8 a)) (omega (arith, length-take 8 b)) first_a first_b numbers.0 in
-    let last : drop 8 a ≡ drop 8 b = word_injective (drop 8 a) (drop 8 b) (omega (arith, length-drop 8 a)) (omega (arith, length-drop 8 b)) last_a last_b numbers.1 in
-    sym (take-append-drop 8 a) ∙ ap (λ (x : List ℕ). x ++ drop 8 a) first ∙ ap (λ (x : List ℕ). take 8 b ++ x) last ∙ take-append-drop 8 b
 
 -- A tag over additional data and a cipher text comes from one IV.
 pub iv_is_one : (key iv other aad cipher : List ℕ) → IsKey key → length iv ≡ 12 → length other ≡ 12 → ((k : ℕ) → get_or iv k 0 < 256) → ((k : ℕ) → get_or other k 0 < 256) → tag key iv aad cipher ≡ tag key other aad cipher → iv ≡ other

@@ -1,3 +1,4 @@
 pub mod Field
 pub mod Gcm
 pub mod Running
+pub mod Table

@@ -1,19 +1,12 @@
-use Rattle.std.proofs.Common.{ℕ, ap, ◌∙◌, arith}
-use Rattle.perc_gcm.specs.Field.{add, product}
-use Rattle.perc_gcm.specs.Gcm.{block_at}
-use Rattle.perc_gcm.proofs.Blocks.{running_none, running_more, running_blocks, block_cut}
+use Rattle.std.proofs.Common.{ℕ, List, ap, sym, ◌∙◌, arith, rules}
+use Rattle.perc_gcm.proofs.Blocks.{running_pair}
 use Rattle.perc_gcm.proofs.hash.hash_octets.Goals as goal
 
-pub loop-i-init : goal.loop-i-init
-loop-i-init c = running_none c.args.hash_key c.args.hash
-
-pub loop-i-preserved : goal.loop-i-preserved
-loop-i-preserved c =
-    c.product-hash.ensures
-    ∙ ap (λ (x : ℕ). product (add c.loop-i.hash x) c.args.hash_key) (c.element.ensures ∙ block_cut c.args.octets.now c.loop-i.i c.min.result c.min.ensures)
-    ∙ ap (λ (y : ℕ). product (add y (block_at c.args.octets.now c.loop-i.i)) c.args.hash_key) c.loop-i.invariant
-    ∙ running_more c.args.hash_key c.args.hash c.loop-i.i c.args.octets.now
+pub loop-pair-preserved : goal.loop-pair-preserved
+loop-pair-preserved c =
+    running_pair c.args.tables.now.once.whole.h c.loop-pair.hash c.products-hash.result c.element.result c.element-in-Some.result c.loop-pair.rest.now c.in-Some.pair.now c.in-Some.behind.now
+    c.args.tables.now.once.fits (omega arith) c.element.type_inv (search rules) c.in-Some.ensures.cases.0 c.in-Some.ensures.cases.1 c.element.ensures c.element-in-Some.ensures c.products-hash.ensures
+    ∙ c.loop-pair.invariant
 
 pub returns : goal.returns
-returns c =
-    c.loop-i.invariant ∙ running_blocks c.args.hash_key c.args.hash c.loop-i.i c.args.octets.now (omega (arith, c.div_ceil-i-end.ensures))
+returns c = c.hash_singly.ensures ∙ c.loop-pair.invariant

@@ -1,8 +1,11 @@
-use Rattle.std.proofs.Common.{◌≡◌, map}
-use Rattle.std.specs.List.{range_with_len}
-use Rattle.perc_gcm.specs.Gcm.{block_at}
+use Rattle.std.proofs.Common.{◌≡◌, length}
+use Rattle.perc_gcm.specs.Gcm.{blocks}
 use Rattle.perc_gcm.specs.Running.{running}
 use Rattle.perc_gcm.proofs.hash.hash_octets.Given as goal
 
-abbrev pub invariant-loop-i : goal.invariant-loop-i
-invariant-loop-i l = l.hash ≡ running l.hash_key l.fn.hash (map (λ k. block_at l.octets k) (range_with_len 0 l.i))
+abbrev pub invariant-loop-pair : goal.invariant-loop-pair
+invariant-loop-pair l =
+    running l.tables.once.whole.h l.hash (blocks l.rest) ≡ running l.tables.once.whole.h l.fn.hash (blocks l.octets)
+
+abbrev pub decreases-loop-pair : goal.decreases-loop-pair
+decreases-loop-pair l = length l.rest

@@ -1,5 +1,5 @@
 use Rattle.std.proofs.Common.{◌≡◌, ℕ, ◌<◌, ◌≤◌, bit_xor, get_or}
-use Rattle.perc_gcm.proofs.counter.add_mask.Given as goal
+use Rattle.perc_gcm.proofs.counter.add_part.Given as goal
 
 abbrev pub invariant-loop-i : goal.invariant-loop-i
 invariant-loop-i l = record {

@@ -1,7 +1,0 @@
-use Rattle.std.proofs.Common.{List, ℕ, ap, ◌∙◌}
-use Rattle.perc_gcm.specs.Gcm.{element, hash_key}
-use Rattle.perc_gcm.proofs.hash.hash_key.Goals as goal
-
-pub returns-clause-value : goal.returns-clause-value
-unfolding element hash_key
-returns-clause-value c = c.from_be_bytes.ensures ∙ ap (λ (xs : List ℕ). element xs) c.encrypt_block.ensures.value
