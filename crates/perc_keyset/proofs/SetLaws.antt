@@ -1,8 +1,8 @@
 -- The set of a list of adds and removals: what is in it, how many there are, and that an association stands once.
-use Rattle.std.proofs.Common.{◌≡◌, ◌≢◌, ℕ, ◌+◌, ◌≤◌, ◌<◌, Bool, true, false, cond, not, List, [], ◌∷◌, ◌++◌, length, ◌⊎◌, ⊎_elim, inl, inr, refl, sym, ap, ◌∙◌, subst, arith, get_or, filter}
+use Rattle.std.proofs.Common.{◌≡◌, ◌≢◌, ℕ, ◌+◌, ◌≤◌, ◌<◌, Bool, true, false, cond, not, ◌||◌, List, [], ◌∷◌, ◌++◌, length, ◌⊎◌, ⊎_elim, inl, inr, refl, sym, ap, ◌∙◌, subst, arith, get_or, filter}
 use Rattle.std.specs.List.{All, AllPairs, Contains, slice_index_or}
 use Rattle.std.specs.Prelude.{nat_le}
-use Rattle.std.proofs.lemmas.Bool.{cond_both, leb-false, not-true}
+use Rattle.std.proofs.lemmas.Bool.{cases_Bool, cond-true, cond-false, cond_both, le-leb, leb-false, lt-leb, not-true, not_from_false, not_from_true, or_parts}
 use Rattle.std.proofs.lemmas.List.{length-append}
 use Rattle.std.proofs.lemmas.List.Elements.{All-nil, All-cons, All-head, All-tail, All-weaker, All-push, All-filter, All-contains, All-contains_itself, filter_passes}
 use Rattle.std.proofs.lemmas.List.Filters.{length-filter_both}
@@ -13,7 +13,7 @@ use Rattle.std.specs.Str.{bytes_eq}
 use Rattle.perc_keyset.specs.declared.Entry.{Entry}
 use Rattle.perc_keyset.specs.declared.Op.{Op}
 use Rattle.perc_keyset.specs.declared.Op.TheVariants.{Add, Remove}
-use Rattle.perc_keyset.specs.Set.{absorbed, fold_ops, is_of, most_entries, set_after, without}
+use Rattle.perc_keyset.specs.Set.{absorbed, fold_ops, holds, is_of, most_entries, set_after, without}
 use Rattle.perc_keyset.specs.History.{IsSetOf, adds}
 
 pub set_after-append : (entries : List Entry) (ops more : List Op) → set_after entries (ops ++ more) ≡ set_after (set_after entries ops) more
@@ -24,6 +24,22 @@ pub adds-append : (ops more : List Op) → adds (ops ++ more) ≡ adds ops ++ ad
 adds-append [] more = refl
 adds-append (Add e ∷ ops) more = ap (λ (es : List Entry). e ∷ es) (adds-append ops more)
 adds-append (Remove association ∷ ops) more = adds-append ops more
+
+-- ---- what an add or a removal leaves
+
+pub absorbed_full : (entries : List Entry) (e : Entry) → nat_le most_entries (length (without e.association entries)) ≡ true → absorbed entries (Add e) ≡ entries
+unfolding absorbed
+absorbed_full entries e full =
+    cond-true (nat_le most_entries (length (without e.association entries))) entries (without e.association entries ++ e ∷ []) full
+
+pub absorbed_fits : (entries : List Entry) (e : Entry) → nat_le most_entries (length (without e.association entries)) ≡ false → absorbed entries (Add e) ≡ without e.association entries ++ e ∷ []
+unfolding absorbed
+absorbed_fits entries e fits =
+    cond-false (nat_le most_entries (length (without e.association entries))) entries (without e.association entries ++ e ∷ []) fits
+
+pub absorbed_removal : (entries : List Entry) (association : List ℕ) → absorbed entries (Remove association) ≡ without association entries
+unfolding absorbed
+absorbed_removal entries association = refl
 
 -- what holds of the entries and of each that is added holds of the entries after
 pub All-absorbed : (P : Entry → Type 0) (entries : List Entry) (op : Op) → All P entries → All P (adds (op ∷ [])) → All P (absorbed entries op)
@@ -82,6 +98,40 @@ few-absorbed entries (Remove association) few =
 pub few-set_after : (entries : List Entry) (ops : List Op) → length entries ≤ most_entries → length (set_after entries ops) ≤ most_entries
 few-set_after entries [] few = few
 few-set_after entries (op ∷ ops) few = few-set_after (absorbed entries op) ops (few-absorbed entries op few)
+
+-- one that isn't held leaves all
+pub without-none : (association : List ℕ) (entries : List Entry) → holds entries association ≡ false → without association entries ≡ entries
+without-none association [] none = refl
+without-none association (e ∷ entries) none =
+    let parts = or_parts (is_of association e) (holds entries association) none in
+    cond-true (not (is_of association e)) (e ∷ without association entries) (without association entries) (not_from_false (is_of association e) parts.0)
+    ∙ ap (λ (es : List Entry). e ∷ es) (without-none association entries parts.1)
+
+-- one that is held leaves fewer
+pub without-some : (association : List ℕ) (entries : List Entry) → holds entries association ≡ true → length (without association entries) < length entries
+without-some association [] some = absurd cc
+without-some association (e ∷ entries) some =
+    ⊎_elim (λ (here : is_of association e ≡ true).
+    let out = cond-false (not (is_of association e)) (e ∷ without association entries) (without association entries) (not_from_true (is_of association e) here) in
+    rw out (omega (arith, length-filter-le (λ d. not (is_of association d)) entries)))
+    (λ (there : is_of association e ≡ false).
+    let kept = cond-true (not (is_of association e)) (e ∷ without association entries) (without association entries) (not_from_false (is_of association e) there) in
+    let later : holds entries association ≡ true = ap (λ (b : Bool). b || holds entries association) (sym there) ∙ some in
+    rw kept (omega (arith, without-some association entries later)))
+    (cases_Bool (is_of association e))
+
+-- whether the others fill the set, by whether all do
+pub full_beside : (association : List ℕ) (entries : List Entry) → length entries ≡ most_entries → not (holds entries association) ≡ nat_le most_entries (length (without association entries))
+full_beside association entries long =
+    ⊎_elim (λ (some : holds entries association ≡ true).
+    not_from_true (holds entries association) some ∙ sym (lt-leb most_entries (length (without association entries)) (omega (arith, without-some association entries some))))
+    (λ (none : holds entries association ≡ false).
+    not_from_false (holds entries association) none ∙ sym (le-leb most_entries (length (without association entries)) (omega (arith, ap (λ (es : List Entry). length es) (without-none association entries none)))))
+    (cases_Bool (holds entries association))
+
+pub room_beside : (association : List ℕ) (entries : List Entry) → length entries < most_entries → nat_le most_entries (length (without association entries)) ≡ false
+room_beside association entries few =
+    lt-leb most_entries (length (without association entries)) (omega (arith, length-filter-le (λ d. not (is_of association d)) entries))
 
 -- ---- an association stands once
 

@@ -1,4 +1,5 @@
-pub mod Set
-pub mod History
-pub mod Publishing
 pub mod Calls
+pub mod History
+pub mod Kept
+pub mod Publishing
+pub mod Set

@@ -1,7 +1,13 @@
 //! Key sets: which associations a media distributor forwards to, and under which outer keys.
 #![tactic(auto)]
 
+mod given;
 pub mod laws;
+mod publisher;
+mod set;
+
+pub use publisher::Publisher;
+pub use set::KeySet;
 
 use perc_kdf::Master;
 use thiserror::Error;
