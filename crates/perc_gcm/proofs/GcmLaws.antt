@@ -1,13 +1,11 @@
 -- Laws of the mode: the lengths and octets of what it makes, and that a text can be had back.
-use Rattle.std.proofs.Common.{◌≡◌, ◌↔◌, ℕ, zero, suc, ◌+◌, ◌-◌, ◌*◌, ◌/◌, ◌%◌, ◌^◌, ◌<◌, ◌≤◌, nat_le, Bool, true, false, IsTrue, if◌then◌else◌, ◌&&◌, Option, None, Some, List, [], ◌∷◌, ◌++◌, length, take, drop, replicate, get_or, bit_xor, ⊎_elim, refl, sym, ◌∙◌, ap, arith}
-use Rattle.std.specs.Int.{w32, w64, w128, byte_at, bytes_high_first, from_be_bytes, to_be_bytes}
+use Rattle.std.proofs.Common.{◌≡◌, ◌↔◌, ℕ, zero, suc, ◌+◌, ◌-◌, ◌/◌, ◌%◌, ◌^◌, ◌<◌, ◌≤◌, nat_le, Bool, true, false, IsTrue, if◌then◌else◌, ◌&&◌, Option, None, Some, List, [], ◌∷◌, ◌++◌, length, take, drop, replicate, get_or, bit_xor, ⊎_elim, refl, sym, ◌∙◌, ap, arith}
+use Rattle.std.specs.Int.{w32, w128, from_be_bytes, to_be_bytes}
 use Rattle.std.specs.Int.Bits.{xor_self, xor_zero_l, xor_zero_r, xor_assoc}
-use Rattle.std.proofs.Math.Arith.{mod-mul}
-use Rattle.std.proofs.Math.Nat.{mul_comm, pow-suc}
 use Rattle.std.proofs.lemmas.Bool.{cases_lt, le-leb}
-use Rattle.std.proofs.lemmas.List.{get_or-take, get_or-drop, get_or_past, ext_get_or, length-append, length-take, length-drop, take_at, drop_at, take-append-drop, append_cancel_right}
+use Rattle.std.proofs.lemmas.List.{get_or_past, ext_get_or, length-append, length-take, take_at, drop_at, take-append-drop, append_cancel_right}
 use Rattle.std.proofs.lemmas.List.FromFn.{get_or-map-range_with_len, length-map-range_with_len}
-use Rattle.std.proofs.lemmas.Nat.{be_bytes_8, same_from_place, xor_lt, xor_mod}
+use Rattle.std.proofs.lemmas.Nat.{xor_lt, xor_mod}
 use Rattle.std.proofs.lemmas.Slice.Eq.{bytes_eq-Decides}
 use Rattle.perc_aes.specs.Cipher.{IsBlock, IsKey, aes}
 use Rattle.perc_aes.proofs.CipherLaws.{IsBlock-aes, aes_injective}

@@ -1,14 +1,13 @@
 -- A product by a table of multiples: four coefficients at a time, the last four first.
-use Rattle.std.proofs.Common.{◌≡◌, ℕ, zero, suc, ◌+◌, ◌-◌, ◌*◌, ◌/◌, ◌%◌, ◌^◌, ◌<◌, ◌≤◌, List, [], ◌∷◌, length, map, get_or, bit_and, bit_xor, ⊎_elim, refl, sym, ◌∙◌, ap, arith, zero-add}
+use Rattle.std.proofs.Common.{◌≡◌, ℕ, zero, suc, ◌+◌, ◌-◌, ◌*◌, ◌/◌, ◌%◌, ◌^◌, ◌<◌, ◌≤◌, List, [], ◌∷◌, length, get_or, bit_and, bit_xor, refl, sym, ◌∙◌, ap, arith, zero-add}
 use Rattle.std.specs.Int.Bits.{xor_assoc, xor_zero_l, xor_zero_r}
-use Rattle.std.specs.List.{range_with_len}
 use Rattle.std.proofs.Math.Nat.{add-mul, add-zero, mul_assoc, mul_comm, mul-lt-mul_of_pos_right, pow-suc, zero-mul}
 use Rattle.std.proofs.lemmas.List.FromFn.{fill_by_all, get_or-map-range_with_len}
 use Rattle.std.proofs.lemmas.Nat.{and_mask, div-add-mod', mod_below, mod-pow-add, pow-add, pow_below, pow_pos, shr-shr, xor_block, xor_comm}
-use Rattle.perc_gcm.specs.Field.{add, one, reduction, times_x, shifted, product}
+use Rattle.perc_gcm.specs.Field.{add, times_x, shifted, product}
 use Rattle.perc_gcm.specs.Table.{multiples, polynomial}
 use Rattle.perc_gcm.specs.declared.field.TheConstants.{CARRIED_NIBBLES, CARRIED_OCTETS}
-use Rattle.perc_gcm.proofs.FieldLaws.{add_add, Linear-left, Linear-shifted, linear_zero, product_comm, product_one, product_pow, product_shifted, same_along, shifted_left}
+use Rattle.perc_gcm.proofs.FieldLaws.{add_add, Linear-left, Linear-shifted, linear_zero, product_comm, product_pow, product_shifted, same_along, shifted_left}
 
 -- ---- an element times x to a power
 

@@ -1,5 +1,5 @@
 -- The products of an element by the sixteen polynomials of degree below 4.
-use Rattle.std.specs.Prelude.{◌≡◌, ℕ, ◌*◌, ◌^◌, ◌<◌, List, map, slice_index}
+use Rattle.std.specs.Prelude.{ℕ, ◌*◌, ◌^◌, List, map}
 use Rattle.std.specs.List.{range_with_len}
 use Rattle.perc_gcm.specs.Field.{product}
 

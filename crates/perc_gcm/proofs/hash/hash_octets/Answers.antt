@@ -1,4 +1,4 @@
-use Rattle.std.proofs.Common.{ℕ, List, ap, sym, ◌∙◌, arith, rules}
+use Rattle.std.proofs.Common.{◌∙◌, arith, rules}
 use Rattle.perc_gcm.proofs.Blocks.{running_pair}
 use Rattle.perc_gcm.proofs.hash.hash_octets.Goals as goal
 

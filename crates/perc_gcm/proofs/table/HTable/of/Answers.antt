@@ -1,4 +1,4 @@
-use Rattle.std.proofs.Common.{ℕ, List, ◌<◌, get_or, slice_set, length-set, ap, sym, ◌∙◌, arith}
+use Rattle.std.proofs.Common.{ℕ, get_or, slice_set, length-set, ap, sym, ◌∙◌, arith}
 use Rattle.std.proofs.lemmas.List.Edits.{fill_by_more}
 use Rattle.perc_gcm.specs.Field.{product}
 use Rattle.perc_gcm.specs.Table.{multiples, polynomial}

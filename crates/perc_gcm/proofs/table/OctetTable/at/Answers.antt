@@ -1,4 +1,4 @@
-use Rattle.std.proofs.Common.{ℕ, ap, ◌∙◌, ◌/◌, ◌^◌, arith, bit_xor}
+use Rattle.std.proofs.Common.{ℕ, ap, ◌∙◌, ◌/◌, bit_xor}
 use Rattle.std.proofs.lemmas.Nat.{and_mask}
 use Rattle.perc_gcm.specs.Field.{product}
 use Rattle.perc_gcm.specs.Table.{polynomial}
