@@ -1,17 +1,20 @@
 -- The steps of a round on blocks: what a loop over the 16 octets makes, and what undoes each step.
-use Rattle.std.proofs.Common.{◌≡◌, ℕ, zero, suc, ◌+◌, ◌*◌, ◌/◌, ◌%◌, ◌<◌, ◌≤◌, List, [], ◌∷◌, length, map, get_or, bit_xor, ⊎_elim, refl, sym, ◌∙◌, ap, arith}
+use Rattle.std.proofs.Common.{◌≡◌, ℕ, zero, suc, ◌+◌, ◌*◌, ◌/◌, ◌%◌, ◌<◌, ◌≤◌, List, length, map, get_or, ⊎_elim, refl, sym, ◌∙◌, ap, arith}
 use Rattle.std.specs.Int.Bits.{xor_self, xor_zero_r, xor_assoc}
 use Rattle.std.specs.List.{range_with_len}
-use Rattle.std.proofs.lemmas.Nat.{xor_comm, xor_lt}
+use Rattle.std.proofs.lemmas.Nat.{xor_lt}
 use Rattle.std.proofs.lemmas.Bool.{cases_lt}
 use Rattle.std.proofs.lemmas.List.{ext_get_or, length-map, get_or-map, get_or_past}
 use Rattle.std.proofs.lemmas.List.FromFn.{fill_by_all, get_or-map-range_with_len}
-use Rattle.perc_aes.specs.Field.{add, total, times_x, product}
-use Rattle.perc_aes.specs.Cipher.{cell, state_of, sub_octet, sub_bytes, shift_rows, mix_matrix, row_times_column, mix_columns, add_round_key, IsBlock}
-use Rattle.perc_aes.specs.declared.tables.TheConstants.{INVERSE_S_BOX}
-use Rattle.perc_aes.proofs.Octets.{product_1, product_2}
-use Rattle.perc_aes.proofs.SBox.{sub_octet_in_range, unsub_sub, inverse_s_box_in_range, sub_unsub}
-use Rattle.perc_aes.proofs.Mixing.{total_same, product_in_range, entry, Undoes, undone, unmix_matrix, mix_undoes, unmix_undoes}
+use Rattle.perc_aes.specs.Field.{add, product}
+use Rattle.perc_aes.specs.Cipher.{cell, state_of, sub_octet, sub_bytes, shift_rows, mix_matrix, row_times_column, mix_columns, add_round_key, word_at, IsBlock}
+use Rattle.perc_aes.specs.Octets.{AreOctets}
+use Rattle.perc_aes.specs.Inverse.{inverse_mix_columns, inverse_shift_rows, inverse_sub_bytes, inverse_sub_octet, unmix_matrix}
+use Rattle.perc_aes.specs.Words.{octets_of, octets_of_word, octets_of_words}
+use Rattle.perc_aes.specs.declared.state.State.{State}
+use Rattle.perc_aes.proofs.StateLaws.{same_words}
+use Rattle.perc_aes.proofs.SBox.{sub_octet_in_range, inverse_sub, inverse_sub_octet_in_range, sub_inverse}
+use Rattle.perc_aes.proofs.Mixing.{total_add, total_same, product_add, product_in_range, entry, Undoes, undone, mix_undoes, unmix_undoes}
 
 -- ---- a state by its cells
 
@@ -36,6 +39,13 @@ state_cells f b size same =
     let k_is : k % 4 + 4 * (k / 4) ≡ k = omega arith in
     rw k_is at (same (k % 4) (k / 4) (omega arith) (omega arith)))
 
+-- the state that a block is
+pub state_of_block : (b : List ℕ) (s : State) → length b ≡ 16 → octets_of_word s.a ≡ word_at b 0 → octets_of_word s.b ≡ word_at b 1 → octets_of_word s.c ≡ word_at b 2 → octets_of_word s.d ≡ word_at b 3 → octets_of s ≡ b
+unfolding octets_of octets_of_words
+state_of_block b s size first second third fourth =
+    same_words _ _ _ _ _ _ _ _ first second third fourth
+    ∙ sym (state_filled (λ r c. cell b r c) b size (λ k in_block. ap (λ (i : ℕ). get_or b i 0) (omega arith)))
+
 -- a state of octets is a block
 IsBlock-state : (f : ℕ → ℕ → ℕ) → ((r c : ℕ) → r < 4 → c < 4 → f r c < 256) → IsBlock (state_of f)
 IsBlock-state f in_range = record {
@@ -48,7 +58,7 @@ IsBlock-state f in_range = record {
 
 -- ---- SubBytes
 
-pub sub_filled : (s b : List ℕ) → length s ≡ 16 → length b ≡ 16 → ((k : ℕ) → k < 16 → get_or b k 0 ≡ sub_octet (get_or s k 0)) → b ≡ sub_bytes s
+sub_filled : (s b : List ℕ) → length s ≡ 16 → length b ≡ 16 → ((k : ℕ) → k < 16 → get_or b k 0 ≡ sub_octet (get_or s k 0)) → b ≡ sub_bytes s
 unfolding sub_bytes
 sub_filled s b size_s size_b same =
     ext_get_or 0 b (map sub_octet s) (size_b ∙ sym size_s ∙ sym (length-map s sub_octet))
@@ -76,27 +86,34 @@ pub sub_injective : (a b : List ℕ) → IsBlock a → IsBlock b → sub_bytes a
 sub_injective a b block_a block_b same =
     ext_get_or 0 a b (block_a.size ∙ sym block_b.size)
     (λ k inside.
-    sym (unsub_sub (get_or a k 0) (block_a.octets k))
-    ∙ ap (λ (x : ℕ). get_or INVERSE_S_BOX x 0) (sym (sub_at a k inside) ∙ ap (λ (s : List ℕ). get_or s k 0) same ∙ sub_at b k (omega (arith, block_a.size, block_b.size)))
-    ∙ unsub_sub (get_or b k 0) (block_b.octets k))
+    sym (inverse_sub (get_or a k 0) (block_a.octets k))
+    ∙ ap inverse_sub_octet (sym (sub_at a k inside) ∙ ap (λ (s : List ℕ). get_or s k 0) same ∙ sub_at b k (omega (arith, block_a.size, block_b.size)))
+    ∙ inverse_sub (get_or b k 0) (block_b.octets k))
 
--- each block has a block that goes there
-pub sub_onto : (c : List ℕ) → IsBlock c → (b : List ℕ) × IsBlock b × (sub_bytes b ≡ c)
-sub_onto c block =
-    let unsub : ℕ → ℕ = λ (x : ℕ). get_or INVERSE_S_BOX x 0 in
-    let size : length (map unsub c) ≡ 16 = length-map c unsub ∙ block.size in (
-      map unsub c,
-      record {
-        size = size;
-        octets = λ k.
-            ⊎_elim (λ (inside : k < 16). rw (get_or-map unsub c k 0 0 (omega (arith, block.size))) (inverse_s_box_in_range (get_or c k 0) (block.octets k)))
-            (λ (past : 16 ≤ k). rw (get_or_past (map unsub c) k 0 (omega (arith, size))) (omega arith))
-            (cases_lt k 16);
-      },
-      sym (sub_filled (map unsub c) c size block.size
-          (λ k in_block.
-          sym (ap sub_octet (get_or-map unsub c k 0 0 (omega (arith, block.size))) ∙ sub_unsub (get_or c k 0) (block.octets k)))),
-    )
+inverse_at : (s : List ℕ) (k : ℕ) → k < length s → get_or (inverse_sub_bytes s) k 0 ≡ inverse_sub_octet (get_or s k 0)
+unfolding inverse_sub_bytes
+inverse_at s k inside = get_or-map inverse_sub_octet s k 0 0 inside
+
+length-inverse_sub_bytes : (s : List ℕ) → length (inverse_sub_bytes s) ≡ length s
+unfolding inverse_sub_bytes
+length-inverse_sub_bytes s = length-map s inverse_sub_octet
+
+pub IsBlock-inverse_sub_bytes : (s : List ℕ) → IsBlock s → IsBlock (inverse_sub_bytes s)
+IsBlock-inverse_sub_bytes s block = record {
+  size = length-inverse_sub_bytes s ∙ block.size;
+  octets = λ k.
+      ⊎_elim (λ (inside : k < 16). rw (inverse_at s k (omega (arith, block.size))) (inverse_sub_octet_in_range (get_or s k 0) (block.octets k)))
+      (λ (past : 16 ≤ k). rw (get_or_past (inverse_sub_bytes s) k 0 (omega (arith, length-inverse_sub_bytes s, block.size))) (omega arith))
+      (cases_lt k 16);
+}
+
+-- SubBytes undoes its inverse
+pub sub_undone : (s : List ℕ) → IsBlock s → sub_bytes (inverse_sub_bytes s) ≡ s
+sub_undone s block =
+    let size : length (inverse_sub_bytes s) ≡ 16 = length-inverse_sub_bytes s ∙ block.size in
+    sym (sub_filled (inverse_sub_bytes s) s size block.size
+    (λ k in_block.
+    sym (ap sub_octet (inverse_at s k (omega (arith, block.size))) ∙ sub_inverse (get_or s k 0) (block.octets k))))
 
 -- ---- ShiftRows
 
@@ -104,21 +121,26 @@ sub_onto c block =
 shifted_place : (k : ℕ) → k < 16 → (k + 4 * (k % 4)) % 16 ≡ k % 4 + 4 * ((k / 4 + k % 4) % 4)
 shifted_place k in_block = omega arith
 
-pub shift_filled : (s b : List ℕ) → length b ≡ 16 → ((k : ℕ) → k < 16 → get_or b k 0 ≡ get_or s ((k + 4 * (k % 4)) % 16) 0) → b ≡ shift_rows s
+shift_filled : (s b : List ℕ) → length b ≡ 16 → ((k : ℕ) → k < 16 → get_or b k 0 ≡ get_or s ((k + 4 * (k % 4)) % 16) 0) → b ≡ shift_rows s
 unfolding shift_rows
 shift_filled s b size same =
     state_filled (λ r c. cell s r ((c + r) % 4)) b size
     (λ k in_block. same k in_block ∙ ap (λ (i : ℕ). get_or s i 0) (shifted_place k in_block))
 
--- the place that a shift takes here
-unshifted_place : (k : ℕ) → k < 16 → ((k + 4 * (k % 4)) % 16 + 12 * ((k + 4 * (k % 4)) % 16 % 4)) % 16 ≡ k
-unshifted_place k in_block = omega arith
-
-pub unshift_filled : (s b : List ℕ) → length s ≡ 16 → ((k : ℕ) → k < 16 → get_or b k 0 ≡ get_or s ((k + 12 * (k % 4)) % 16) 0) → s ≡ shift_rows b
-unshift_filled s b size same =
-    shift_filled b s size
+-- ShiftRows undoes its inverse
+pub shift_undone : (s : List ℕ) → IsBlock s → shift_rows (inverse_shift_rows s) ≡ s
+unfolding inverse_shift_rows
+shift_undone s block =
+    sym (shift_filled (inverse_shift_rows s) s block.size
     (λ k in_block.
-    sym (same ((k + 4 * (k % 4)) % 16) (omega arith) ∙ ap (λ (i : ℕ). get_or s i 0) (unshifted_place k in_block)))
+    let place : ℕ = (k + 4 * (k % 4)) % 16 in
+    let here : place % 4 + 4 * ((place / 4 + 3 * (place % 4)) % 4) ≡ k = omega arith in
+    sym (rw here at (state_at (λ r c. cell s r ((c + 3 * r) % 4)) place (omega arith)))))
+
+pub IsBlock-inverse_shift_rows : (s : List ℕ) → IsBlock s → IsBlock (inverse_shift_rows s)
+unfolding inverse_shift_rows
+IsBlock-inverse_shift_rows s block =
+    IsBlock-state (λ r c. cell s r ((c + 3 * r) % 4)) (λ r c _ _. block.octets (r + 4 * ((c + 3 * r) % 4)))
 
 pub IsBlock-shift_rows : (s : List ℕ) → IsBlock s → IsBlock (shift_rows s)
 unfolding shift_rows
@@ -136,78 +158,7 @@ shift_injective a b block_a block_b same =
     let of_b = rw here at (state_at (λ r c. cell b r ((c + r) % 4)) place (omega arith)) in
     sym of_a ∙ ap (λ (s : List ℕ). get_or s place 0) same ∙ of_b)
 
-pub shift_onto : (c : List ℕ) → IsBlock c → (b : List ℕ) × IsBlock b × (shift_rows b ≡ c)
-shift_onto c block =
-    let unshift : ℕ → ℕ = λ (k : ℕ). get_or c ((k + 12 * (k % 4)) % 16) 0 in (
-      map unshift (range_with_len 0 16),
-      record {
-        size = refl;
-        octets = λ k.
-            ⊎_elim (λ (inside : k < 16). rw (get_or-map-range_with_len unshift 0 16 k k 0 inside (omega arith)) (block.octets ((k + 12 * (k % 4)) % 16)))
-            (λ (past : 16 ≤ k). rw (get_or_past (map unshift (range_with_len 0 16)) k 0 past) (omega arith))
-            (cases_lt k 16);
-      },
-      sym (unshift_filled c (map unshift (range_with_len 0 16)) block.size (λ k in_block. get_or-map-range_with_len unshift 0 16 k k 0 in_block (omega arith))),
-    )
-
 -- ---- MixColumns
-
--- four octets as the code adds them
-pub add_left : (p q r s : ℕ) → bit_xor (bit_xor (bit_xor p q) r) s ≡ total (p ∷ q ∷ r ∷ s ∷ [])
-add_left p q r s = rw (xor_zero_r s, xor_assoc p q r, xor_assoc p (bit_xor q r) s, xor_assoc q r s) refl
-
-pub mixed_sum : (a b c d x y : ℕ) → a < 256 → b < 256 → c < 256 → d < 256 → x ≡ times_x a → y ≡ product 3 b → bit_xor (bit_xor (bit_xor x y) c) d ≡ total (product 2 a ∷ product 3 b ∷ product 1 c ∷ product 1 d ∷ [])
-mixed_sum a b c d x y in_a in_b in_c in_d x_is y_is =
-    rw (x_is, y_is, ← product_2 a in_a, product_1 c in_c, product_1 d in_d) (add_left (product 2 a) (product 3 b) c d)
-
--- four sums of octets, begun one place later
-add_turn : (p q r s : ℕ) → add p (add q (add r (add s 0))) ≡ add s (add p (add q (add r 0)))
-add_turn p q r s =
-    rw (xor_zero_r s, xor_zero_r r)
-    (sym (xor_assoc p q (bit_xor r s)) ∙ sym (xor_assoc (bit_xor p q) r s) ∙ xor_comm (bit_xor (bit_xor p q) r) s
-    ∙ ap (λ (x : ℕ). bit_xor s x) (xor_assoc p q r))
-
--- the sum that the code forms of a column, from the row of octet k on
-abbrev pub turned_sum : ℕ → ℕ → ℕ → ℕ → List ℕ → ℕ → ℕ
-turned_sum a b c d s k =
-    total (product a (get_or s k 0) ∷ product b (get_or s (k / 4 * 4 + (k + 1) % 4) 0)
-    ∷ product c (get_or s (k / 4 * 4 + (k + 2) % 4) 0) ∷ product d (get_or s (k / 4 * 4 + (k + 3) % 4) 0) ∷ [])
-
--- a matrix of which each row is the one above turned right
-abbrev pub circulant : ℕ → ℕ → ℕ → ℕ → List (List ℕ)
-circulant a b c d = (a ∷ b ∷ c ∷ d ∷ []) ∷ (d ∷ a ∷ b ∷ c ∷ []) ∷ (c ∷ d ∷ a ∷ b ∷ []) ∷ (b ∷ c ∷ d ∷ a ∷ []) ∷ []
-
-turned_by : (a b c d : ℕ) (s : List ℕ) (k i1 i2 i3 : ℕ) → k / 4 * 4 + (k + 1) % 4 ≡ i1 → k / 4 * 4 + (k + 2) % 4 ≡ i2 → k / 4 * 4 + (k + 3) % 4 ≡ i3 → turned_sum a b c d s k ≡ add (product a (get_or s k 0)) (add (product b (get_or s i1 0)) (add (product c (get_or s i2 0)) (add (product d (get_or s i3 0)) 0)))
-turned_by a b c d s k i1 i2 i3 e1 e2 e3 =
-    rw (e1, e2, e3) refl
-
-turned_row : (a b c d : ℕ) (s : List ℕ) (r column : ℕ) → r < 4 → turned_sum a b c d s (r + 4 * column) ≡ row_times_column (circulant a b c d) s r column
-turned_row a b c d s zero column _ =
-    turned_by a b c d s (0 + 4 * column) (1 + 4 * column) (2 + 4 * column) (3 + 4 * column) (omega arith) (omega arith) (omega arith)
-turned_row a b c d s (suc zero) column _ =
-    turned_by a b c d s (1 + 4 * column) (2 + 4 * column) (3 + 4 * column) (0 + 4 * column) (omega arith) (omega arith) (omega arith)
-    ∙ add_turn (product a (cell s 1 column)) (product b (cell s 2 column)) (product c (cell s 3 column)) (product d (cell s 0 column))
-turned_row a b c d s (suc (suc zero)) column _ =
-    turned_by a b c d s (2 + 4 * column) (3 + 4 * column) (0 + 4 * column) (1 + 4 * column) (omega arith) (omega arith) (omega arith)
-    ∙ add_turn (product a (cell s 2 column)) (product b (cell s 3 column)) (product c (cell s 0 column)) (product d (cell s 1 column))
-    ∙ add_turn (product d (cell s 1 column)) (product a (cell s 2 column)) (product b (cell s 3 column)) (product c (cell s 0 column))
-turned_row a b c d s (suc (suc (suc zero))) column _ =
-    turned_by a b c d s (3 + 4 * column) (0 + 4 * column) (1 + 4 * column) (2 + 4 * column) (omega arith) (omega arith) (omega arith)
-    ∙ add_turn (product a (cell s 3 column)) (product b (cell s 0 column)) (product c (cell s 1 column)) (product d (cell s 2 column))
-    ∙ add_turn (product d (cell s 2 column)) (product a (cell s 3 column)) (product b (cell s 0 column)) (product c (cell s 1 column))
-    ∙ add_turn (product c (cell s 1 column)) (product d (cell s 2 column)) (product a (cell s 3 column)) (product b (cell s 0 column))
-turned_row a b c d s (suc (suc (suc (suc r)))) column h = absurd (omega arith)
-
-turned_filled : (a b c d : ℕ) (s t : List ℕ) → length t ≡ 16 → ((k : ℕ) → k < 16 → get_or t k 0 ≡ turned_sum a b c d s k) → t ≡ state_of (row_times_column (circulant a b c d) s)
-turned_filled a b c d s t size same =
-    state_filled (row_times_column (circulant a b c d) s) t size
-    (λ k in_block.
-    let k_is : k % 4 + 4 * (k / 4) ≡ k = omega arith in
-    same k in_block ∙ rw k_is at (turned_row a b c d s (k % 4) (k / 4) (omega arith)))
-
-pub mix_filled : (s t : List ℕ) → length t ≡ 16 → ((k : ℕ) → k < 16 → get_or t k 0 ≡ turned_sum 2 3 1 1 s k) → t ≡ mix_columns s
-unfolding mix_columns
-mix_filled s t size same = turned_filled 2 3 1 1 s t size same
 
 -- what m makes of what n made of a block, where m undoes n
 undone_state : (m n : List (List ℕ)) (s : List ℕ) → Undoes m n → IsBlock s → s ≡ state_of (row_times_column m (state_of (row_times_column n s)))
@@ -218,11 +169,10 @@ undone_state m n s undoes block =
     (λ j below. ap (λ (x : ℕ). product (entry m r j) x) (cell_state (row_times_column n s) j c below in_columns))
     ∙ undone m n (λ k. cell s k c) r undoes (λ k. block.octets (k + 4 * c)) in_rows))
 
-pub unmix_filled : (s t : List ℕ) → IsBlock s → length t ≡ 16 → ((k : ℕ) → k < 16 → get_or t k 0 ≡ turned_sum 14 11 13 9 s k) → mix_columns t ≡ s
-unfolding mix_columns
-unmix_filled s t block size same =
-    ap (λ (u : List ℕ). state_of (row_times_column mix_matrix u)) (turned_filled 14 11 13 9 s t size same)
-    ∙ sym (undone_state mix_matrix unmix_matrix s mix_undoes block)
+-- MixColumns undoes its inverse
+pub mix_undone : (s : List ℕ) → IsBlock s → mix_columns (inverse_mix_columns s) ≡ s
+unfolding mix_columns inverse_mix_columns
+mix_undone s block = sym (undone_state mix_matrix unmix_matrix s mix_undoes block)
 
 pub mix_injective : (a b : List ℕ) → IsBlock a → IsBlock b → mix_columns a ≡ mix_columns b → a ≡ b
 unfolding mix_columns
@@ -257,27 +207,19 @@ unmixed_in_range s (suc (suc zero)) column _ = row_in_range 13 9 14 11 s column 
 unmixed_in_range s (suc (suc (suc zero))) column _ = row_in_range 11 13 9 14 s column (omega arith) (omega arith) (omega arith) (omega arith)
 unmixed_in_range s (suc (suc (suc (suc r)))) column h = absurd (omega arith)
 
-pub mix_onto : (c : List ℕ) → IsBlock c → (b : List ℕ) × IsBlock b × (mix_columns b ≡ c)
-unfolding mix_columns
-mix_onto c block = (
-  state_of (row_times_column unmix_matrix c),
-  IsBlock-state (row_times_column unmix_matrix c) (λ r column in_rows _. unmixed_in_range c r column in_rows),
-  sym (undone_state mix_matrix unmix_matrix c mix_undoes block),
-)
+pub IsBlock-inverse_mix_columns : (s : List ℕ) → IsBlock (inverse_mix_columns s)
+unfolding inverse_mix_columns
+IsBlock-inverse_mix_columns s = IsBlock-state (row_times_column unmix_matrix s) (λ r c in_rows _. unmixed_in_range s r c in_rows)
 
 -- ---- AddRoundKey
-
-pub add_filled : (s w b : List ℕ) → length b ≡ 16 → ((k : ℕ) → k < 16 → get_or b k 0 ≡ add (get_or s k 0) (get_or w k 0)) → b ≡ add_round_key s w
-unfolding add_round_key
-add_filled s w b size same =
-    state_filled (λ r c. add (cell s r c) (cell w r c)) b size
-    (λ k in_block.
-    let k_is : k % 4 + 4 * (k / 4) ≡ k = omega arith in
-    rw k_is (same k in_block))
 
 add_cell : (s w : List ℕ) (r c : ℕ) → r < 4 → c < 4 → cell (add_round_key s w) r c ≡ add (cell s r c) (cell w r c)
 unfolding add_round_key
 add_cell s w r c in_rows in_columns = cell_state (λ r c. add (cell s r c) (cell w r c)) r c in_rows in_columns
+
+length-add_round_key : (s w : List ℕ) → length (add_round_key s w) ≡ 16
+unfolding add_round_key
+length-add_round_key s w = refl
 
 -- to add a round key twice is to add nothing
 pub add_twice : (s w : List ℕ) → length s ≡ 16 → add_round_key (add_round_key s w) w ≡ s
@@ -291,12 +233,32 @@ pub add_injective : (a b w : List ℕ) → IsBlock a → IsBlock b → add_round
 add_injective a b w block_a block_b same =
     sym (add_twice a w block_a.size) ∙ ap (λ (s : List ℕ). add_round_key s w) same ∙ add_twice b w block_b.size
 
-pub IsBlock-add_round_key : (s w : List ℕ) → ((k : ℕ) → get_or s k 0 < 256) → ((k : ℕ) → get_or w k 0 < 256) → IsBlock (add_round_key s w)
+pub IsBlock-add_round_key : (s w : List ℕ) → AreOctets s → AreOctets w → IsBlock (add_round_key s w)
 unfolding add_round_key
 IsBlock-add_round_key s w octets_s octets_w =
     IsBlock-state (λ r c. add (cell s r c) (cell w r c))
     (λ r c _ _. xor_lt 8 (cell s r c) (cell w r c) (octets_s (r + 4 * c)) (octets_w (r + 4 * c)))
 
-pub add_onto : (c w : List ℕ) → IsBlock c → ((k : ℕ) → get_or w k 0 < 256) → (b : List ℕ) × IsBlock b × (add_round_key b w ≡ c)
-add_onto c w block octets_w =
-    (add_round_key c w, IsBlock-add_round_key c w block.octets octets_w, add_twice c w block.size)
+-- MixColumns of a sum
+row_of_sum : (s w : List ℕ) (r c : ℕ) → c < 4 → row_times_column mix_matrix (add_round_key s w) r c ≡ add (row_times_column mix_matrix s r c) (row_times_column mix_matrix w r c)
+row_of_sum s w r c in_columns =
+    total_same (λ k. product (entry mix_matrix r k) (cell (add_round_key s w) k c)) (λ k. add (product (entry mix_matrix r k) (cell s k c)) (product (entry mix_matrix r k) (cell w k c)))
+    (λ k in_rows.
+    ap (λ (x : ℕ). product (entry mix_matrix r k) x) (add_cell s w k c in_rows in_columns) ∙ product_add (entry mix_matrix r k) (cell s k c) (cell w k c))
+    ∙ total_add (λ k. product (entry mix_matrix r k) (cell s k c)) (λ k. product (entry mix_matrix r k) (cell w k c)) (range_with_len 0 4)
+
+mix_of_sum : (s w : List ℕ) → mix_columns (add_round_key s w) ≡ add_round_key (mix_columns s) (mix_columns w)
+unfolding mix_columns
+mix_of_sum s w =
+    sym (state_cells (row_times_column mix_matrix (add_round_key s w)) (add_round_key (state_of (row_times_column mix_matrix s)) (state_of (row_times_column mix_matrix w))) (length-add_round_key (state_of (row_times_column mix_matrix s)) (state_of (row_times_column mix_matrix w)))
+    (λ r c in_rows in_columns.
+    add_cell (state_of (row_times_column mix_matrix s)) (state_of (row_times_column mix_matrix w)) r c in_rows in_columns
+    ∙ ap (λ (x : ℕ). add x (cell (state_of (row_times_column mix_matrix w)) r c)) (cell_state (row_times_column mix_matrix s) r c in_rows in_columns)
+    ∙ ap (λ (x : ℕ). add (row_times_column mix_matrix s r c) x) (cell_state (row_times_column mix_matrix w) r c in_rows in_columns)
+    ∙ sym (row_of_sum s w r c in_columns)))
+
+-- so its inverse is taken of a block and of what is added to it apart
+pub mix_sum_undone : (s w b : List ℕ) → IsBlock s → IsBlock w → b ≡ add_round_key (inverse_mix_columns s) (inverse_mix_columns w) → mix_columns b ≡ add_round_key s w
+mix_sum_undone s w b block_s block_w is =
+    ap mix_columns is ∙ mix_of_sum (inverse_mix_columns s) (inverse_mix_columns w)
+    ∙ rw (mix_undone s block_s, mix_undone w block_w) refl

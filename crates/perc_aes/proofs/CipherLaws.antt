@@ -1,8 +1,9 @@
 -- Laws of the cipher: for every key it is a bijection of the blocks.
-use Rattle.std.proofs.Common.{◌≡◌, ℕ, ◌-◌, List}
-use Rattle.perc_aes.specs.Cipher.{IsBlock, IsKey, aes, last_round, round_key, rounds, shift_rows, state_after, sub_bytes}
-use Rattle.perc_aes.proofs.Blocks.{IsBlock-sub_bytes, IsBlock-shift_rows, IsBlock-add_round_key, sub_injective, shift_injective, add_injective, sub_onto, shift_onto, add_onto}
-use Rattle.perc_aes.proofs.Rounds.{AreOctets-round_key, IsBlock-state_after, state_injective, state_onto}
+use Rattle.std.proofs.Common.{◌≡◌, ℕ, ◌-◌, List, ap, ◌∙◌}
+use Rattle.perc_aes.specs.Inverse.{inverse_shift_rows, inverse_sub_bytes}
+use Rattle.perc_aes.specs.Cipher.{IsBlock, IsKey, add_round_key, aes, last_round, round_key, rounds, shift_rows, state_after, sub_bytes}
+use Rattle.perc_aes.proofs.Blocks.{IsBlock-sub_bytes, IsBlock-shift_rows, IsBlock-add_round_key, sub_injective, shift_injective, add_injective, add_twice}
+use Rattle.perc_aes.proofs.Rounds.{AreOctets-round_key, IsBlock-undone, shift_sub_undone, IsBlock-state_after, state_injective, state_onto}
 
 -- The cipher gives blocks.
 pub IsBlock-aes : (key b : List ℕ) → IsKey key → IsBlock b → IsBlock (aes key b)
@@ -24,10 +25,12 @@ last_injective key a b block_a block_b same =
 last_onto : (key c : List ℕ) → IsKey key → IsBlock c → (b : List ℕ) × IsBlock b × (last_round key b ≡ c)
 unfolding last_round
 last_onto key c is block =
-    let s = add_onto c (round_key key (rounds key)) block (AreOctets-round_key key (rounds key) is.octets) in
-    let t = shift_onto s.0 s.1 in
-    let u = sub_onto t.0 t.1 in
-    (u.0, u.1, rw (u.2, t.2) s.2)
+    let w = round_key key (rounds key) in
+    let s = IsBlock-add_round_key c w block.octets (AreOctets-round_key key (rounds key) is.octets) in (
+      inverse_sub_bytes (inverse_shift_rows (add_round_key c w)),
+      IsBlock-undone (add_round_key c w) s,
+      ap (λ (u : List ℕ). add_round_key u w) (shift_sub_undone (add_round_key c w) s) ∙ add_twice c w block.size,
+    )
 
 -- No two blocks go to the same block.
 pub aes_injective : (key a b : List ℕ) → IsKey key → IsBlock a → IsBlock b → aes key a ≡ aes key b → a ≡ b

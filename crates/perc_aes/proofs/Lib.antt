@@ -4,4 +4,6 @@ mod Mixing
 mod Octets
 mod Rounds
 mod SBox
+mod StateLaws
+mod TableLaws
 mod Words

@@ -5,6 +5,7 @@ use Rattle.std.specs.List.{range_with_len}
 use Rattle.std.proofs.lemmas.Nat.{xor_comm, xor_lt, xor_shr, xor_mod}
 use Rattle.perc_aes.specs.Field.{add, total, times_x, product, product_below}
 use Rattle.perc_aes.specs.Cipher.{mix_matrix}
+use Rattle.perc_aes.specs.Inverse.{unmix_matrix}
 use Rattle.perc_aes.proofs.Octets.{same_along, below_256}
 
 -- ---- sums
@@ -21,7 +22,7 @@ total_zero : (ks : List ℕ) → total (map (λ k. 0) ks) ≡ 0
 total_zero [] = refl
 total_zero (k ∷ ks) = total_zero ks
 
-total_add : (f g : ℕ → ℕ) (ks : List ℕ) → total (map (λ k. add (f k) (g k)) ks) ≡ add (total (map f ks)) (total (map g ks))
+pub total_add : (f g : ℕ → ℕ) (ks : List ℕ) → total (map (λ k. add (f k) (g k)) ks) ≡ add (total (map f ks)) (total (map g ks))
 total_add f g [] = refl
 total_add f g (k ∷ ks) =
     ap (λ (x : ℕ). add (add (f k) (g k)) x) (total_add f g ks)
@@ -58,7 +59,7 @@ product_below_add (suc n) a b c =
     (add_add (if nat_eq (b % 2) 1 then a else 0) (if nat_eq (c % 2) 1 then a else 0) (product_below n (times_x a) (b / 2)) (product_below n (times_x a) (c / 2)))
 
 -- a product is linear in its second factor
-product_add : (a b c : ℕ) → product a (add b c) ≡ add (product a b) (product a c)
+pub product_add : (a b c : ℕ) → product a (add b c) ≡ add (product a b) (product a c)
 unfolding product
 product_add a b c = product_below_add 8 a b c
 
@@ -90,11 +91,6 @@ unfolding product
 product_in_range a b in_range = product_below_in_range 8 a b in_range
 
 -- ---- matrices
-
--- what undoes mix_matrix
-abbrev pub unmix_matrix : List (List ℕ)
-unmix_matrix =
-    (14 ∷ 11 ∷ 13 ∷ 9 ∷ []) ∷ (9 ∷ 14 ∷ 11 ∷ 13 ∷ []) ∷ (13 ∷ 9 ∷ 14 ∷ 11 ∷ []) ∷ (11 ∷ 13 ∷ 9 ∷ 14 ∷ []) ∷ []
 
 abbrev pub entry : List (List ℕ) → ℕ → ℕ → ℕ
 entry m r k = slice_index (slice_index_or m r []) k

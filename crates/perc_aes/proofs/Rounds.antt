@@ -1,23 +1,24 @@
 -- The rounds, from one block to the next, and the keys that they add.
-use Rattle.std.proofs.Common.{◌≡◌, ℕ, zero, suc, ◌+◌, ◌-◌, ◌*◌, ◌/◌, ◌%◌, ◌<◌, ◌≤◌, if◌then◌else◌, nat_lt, nat_eq, ◌&&◌, Bool, true, false, List, [], ◌∷◌, ◌++◌, length, take, drop, get_or, ⊎_elim, refl, sym, ◌∙◌, ap, arith}
+use Rattle.std.proofs.Common.{◌≡◌, ℕ, zero, suc, ◌+◌, ◌-◌, ◌*◌, ◌/◌, ◌%◌, ◌<◌, ◌≤◌, if◌then◌else◌, nat_lt, nat_eq, ◌&&◌, Bool, true, false, List, [], ◌∷◌, ◌++◌, length, length-drop, take, drop, get_or, ⊎_elim, refl, sym, ◌∙◌, ap, arith}
 use Rattle.std.proofs.lemmas.Bool.{cases_lt}
-use Rattle.std.proofs.lemmas.List.{get_or-take, get_or-drop, get_or_past, length-take, get_or_append_left, get_or-append_right, drop-take, take-take}
+use Rattle.std.proofs.lemmas.List.{ext_get_or, get_or-take, get_or-drop, get_or_past, length-take, get_or_append_left, get_or-append_right}
 use Rattle.std.proofs.lemmas.Nat.{xor_lt}
 use Rattle.perc_aes.specs.Field.{add, times_x, power_of_x}
 use Rattle.perc_aes.specs.Cipher.{IsBlock, IsKey, add_round_key, add_words, aes, key_words, last_round, mix_columns, next_word, rotate_word, round_constant, round_key, rounds, schedule, schedule_core, shift_rows, state_after, sub_bytes, sub_octet, sub_word, word_at}
+use Rattle.perc_aes.specs.Inverse.{inverse_mix_columns, inverse_shift_rows, inverse_sub_bytes}
 use Rattle.perc_aes.specs.KeySchedule.{IsSchedule}
+use Rattle.perc_aes.specs.Octets.{AreOctets}
+use Rattle.perc_aes.specs.Words.{octets_of, octets_of_word, octets_of_words}
+use Rattle.perc_aes.specs.declared.state.State.{State}
 use Rattle.perc_aes.proofs.Octets.{below_256}
 use Rattle.perc_aes.proofs.SBox.{sub_octet_in_range}
-use Rattle.perc_aes.proofs.Words.{key_size, length_key}
-use Rattle.perc_aes.proofs.Blocks.{IsBlock-sub_bytes, IsBlock-shift_rows, IsBlock-mix_columns, IsBlock-add_round_key, sub_injective, shift_injective, mix_injective, add_injective, sub_onto, shift_onto, mix_onto, add_onto, add_twice}
+use Rattle.perc_aes.proofs.StateLaws.{AreOctets-word}
+use Rattle.perc_aes.proofs.Words.{key_of_words, key_size, length-words, words_at}
+use Rattle.perc_aes.proofs.Blocks.{IsBlock-sub_bytes, IsBlock-shift_rows, IsBlock-mix_columns, IsBlock-add_round_key, IsBlock-inverse_sub_bytes, IsBlock-inverse_shift_rows, IsBlock-inverse_mix_columns, sub_injective, shift_injective, mix_injective, add_injective, sub_undone, shift_undone, mix_undone, add_twice}
 
 -- ---- lists of octets
 
--- each element is an octet
-abbrev pub AreOctets : List ℕ → Type 0
-AreOctets xs = (k : ℕ) → get_or xs k 0 < 256
-
-AreOctets-four : (a b c d : ℕ) → a < 256 → b < 256 → c < 256 → d < 256 → (k : ℕ) → get_or (a ∷ b ∷ c ∷ d ∷ []) k 0 < 256
+AreOctets-four : (a b c d : ℕ) → a < 256 → b < 256 → c < 256 → d < 256 → AreOctets (a ∷ b ∷ c ∷ d ∷ [])
 AreOctets-four a b c d in_a in_b in_c in_d zero = in_a
 AreOctets-four a b c d in_a in_b in_c in_d (suc zero) = in_b
 AreOctets-four a b c d in_a in_b in_c in_d (suc (suc zero)) = in_c
@@ -103,34 +104,81 @@ AreOctets-round_key key r octets =
     AreOctets-take 16 (drop (16 * r) (schedule key (4 * (rounds key + 1))))
     (AreOctets-drop (16 * r) (schedule key (4 * (rounds key + 1))) (AreOctets-schedule key (4 * (rounds key + 1)) octets))
 
--- ---- what a key's schedule keeps
+-- ---- what is kept of a key
 
--- a round key, as the octets of a schedule have it
-pub round_key_is : (octets : List ℕ) (n r : ℕ) → IsSchedule octets n → length octets ≡ 240 → r ≤ rounds (take n octets) → take 16 (drop (16 * r) octets) ≡ round_key (take n octets) r
-unfolding round_key
-round_key_is octets n r is size in_rounds =
-    let facts = key_size n is.size in
-    let key_is : length (take n octets) ≡ n = length_key octets n (omega arith) in
-    let few : r ≤ n / 4 + 6 = rw key_is at in_rounds in
-    let words : 4 * (rounds (take n octets) + 1) ≡ n + 28 = rw key_is (omega arith) in
-    let whole : 16 * r + (n * 4 + 112 - 16 * r) ≡ n * 4 + 112 = omega arith in
-    sym (take-take 16 (n * 4 + 112 - 16 * r) (drop (16 * r) octets) (omega arith))
-    ∙ ap (λ (xs : List ℕ). take 16 xs) (sym (drop-take (16 * r) (n * 4 + 112 - 16 * r) octets))
-    ∙ ap (λ (k : ℕ). take 16 (drop (16 * r) (take k octets))) whole
-    ∙ ap (λ (xs : List ℕ). take 16 (drop (16 * r) xs)) is.words
-    ∙ ap (λ (k : ℕ). take 16 (drop (16 * r) (schedule (take n octets) k))) (sym words)
+-- The octets of words are octets.
+AreOctets-words : (ws : List ℕ) → AreOctets (octets_of_words ws)
+unfolding octets_of_words
+AreOctets-words [] = λ k. omega arith
+AreOctets-words (w ∷ ws) = AreOctets-append (octets_of_word w) (octets_of_words ws) (AreOctets-word w) (AreOctets-words ws)
+
+pub IsBlock-octets_of : (s : State) → IsBlock (octets_of s)
+unfolding octets_of
+IsBlock-octets_of s =
+    record { size = length-words (s.a ∷ s.b ∷ s.c ∷ s.d ∷ []); octets = AreOctets-words (s.a ∷ s.b ∷ s.c ∷ s.d ∷ []) }
 
 -- the key that a schedule begins with
-pub key_of : (octets : List ℕ) (n : ℕ) → IsSchedule octets n → length octets ≡ 240 → IsKey (take n octets)
-key_of octets n is size =
-    let facts = key_size n is.size in
-    let key_is : length (take n octets) ≡ n = length_key octets n (omega arith) in
-    record { size = rw key_is is.size; octets = is.in_range }
+pub key_of : (words : List ℕ) (nk : ℕ) → IsSchedule words nk → length words ≡ 60 → IsKey (octets_of_words (take nk words))
+key_of words nk is size =
+    let facts = key_size (4 * nk) is.size in
+    let key_is : length (octets_of_words (take nk words)) ≡ 4 * nk = omega (arith, length-words (take nk words), length-take nk words) in
+    record { size = rw key_is is.size; octets = AreOctets-words (take nk words) }
 
--- a round key added gives a block
-pub IsBlock-added : (key s b : List ℕ) (r : ℕ) → IsKey key → AreOctets s → b ≡ add_round_key s (round_key key r) → IsBlock b
-IsBlock-added key s b r is octets b_is =
-    rw b_is (IsBlock-add_round_key s (round_key key r) octets (AreOctets-round_key key r is.octets))
+-- the four words from place n on
+four_at : (words : List ℕ) (n j : ℕ) → j < 4 → get_or (get_or words n 0 ∷ get_or words (n + 1) 0 ∷ get_or words (n + 2) 0 ∷ get_or words (n + 3) 0 ∷ []) j 0 ≡ get_or words (n + j) 0
+four_at words n zero within = ap (λ (i : ℕ). get_or words i 0) (omega arith)
+four_at words n (suc zero) within = refl
+four_at words n (suc (suc zero)) within = refl
+four_at words n (suc (suc (suc zero))) within = refl
+four_at words n (suc (suc (suc (suc j)))) within = absurd (omega arith)
+
+-- the octets of the four words from place n on
+abbrev four_octets : List ℕ → ℕ → List ℕ
+four_octets words n = octets_of_words (get_or words n 0 ∷ get_or words (n + 1) 0 ∷ get_or words (n + 2) 0 ∷ get_or words (n + 3) 0 ∷ [])
+
+-- one of them, within the octets of all
+four_octets_at : (words : List ℕ) (r k : ℕ) → 4 * r + 4 ≤ length words → k < 16 → get_or (four_octets words (4 * r)) k 0 ≡ get_or (octets_of_words words) (16 * r + k) 0
+four_octets_at words r k fits within =
+    let here : 4 * (k / 4) + k % 4 ≡ k = omega arith in
+    let there : 4 * (4 * r + k / 4) + k % 4 ≡ 16 * r + k = omega arith in
+    rw here at (words_at (get_or words (4 * r) 0 ∷ get_or words (4 * r + 1) 0 ∷ get_or words (4 * r + 2) 0 ∷ get_or words (4 * r + 3) 0 ∷ []) (k / 4) (k % 4) (omega arith) (omega arith))
+    ∙ ap (λ (w : ℕ). get_or (octets_of_word w) (k % 4) 0) (four_at words (4 * r) (k / 4) (omega arith))
+    ∙ rw there at (sym (words_at words (4 * r + k / 4) (k % 4) (omega arith) (omega arith)))
+
+-- they are 16 octets of all
+four_octets_is : (words : List ℕ) (r : ℕ) → 4 * r + 4 ≤ length words → four_octets words (4 * r) ≡ take 16 (drop (16 * r) (octets_of_words words))
+four_octets_is words r fits =
+    let of_four : length (four_octets words (4 * r)) ≡ 16 = length-words (get_or words (4 * r) 0 ∷ get_or words (4 * r + 1) 0 ∷ get_or words (4 * r + 2) 0 ∷ get_or words (4 * r + 3) 0 ∷ []) in
+    let of_all : length (take 16 (drop (16 * r) (octets_of_words words))) ≡ 16 = omega (arith, length-take 16 (drop (16 * r) (octets_of_words words)), length-drop (16 * r) (octets_of_words words), length-words words) in
+    ext_get_or 0 (four_octets words (4 * r)) (take 16 (drop (16 * r) (octets_of_words words))) (of_four ∙ sym of_all)
+    (λ k inside.
+    four_octets_at words r k fits (omega (arith, of_four))
+    ∙ sym (get_or-take 16 (drop (16 * r) (octets_of_words words)) k 0 (omega (arith, of_four)) ∙ get_or-drop (16 * r) (octets_of_words words) k 0))
+
+-- the same of the first of them
+four_octets-take : (n : ℕ) (words : List ℕ) (i : ℕ) → i + 4 ≤ n → four_octets (take n words) i ≡ four_octets words i
+four_octets-take n words i fits =
+    rw (get_or-take n words i 0 (omega arith), get_or-take n words (i + 1) 0 (omega arith), get_or-take n words (i + 2) 0 (omega arith), get_or-take n words (i + 3) 0 (omega arith))
+    refl
+
+-- its words are within the schedule
+pub round_key_fits : (words : List ℕ) (nk r : ℕ) → IsSchedule words nk → length words ≡ 60 → r ≤ rounds (octets_of_words (take nk words)) → 4 * r + 4 ≤ 60
+round_key_fits words nk r is size in_rounds =
+    let facts = key_size (4 * nk) is.size in
+    omega (arith, key_of_words words nk is.size size)
+
+-- a round key, as the words of a schedule have it
+pub round_key_is : (words : List ℕ) (nk r : ℕ) → IsSchedule words nk → length words ≡ 60 → r ≤ rounds (octets_of_words (take nk words)) → octets_of (record { a = get_or words (4 * r) 0; b = get_or words (4 * r + 1) 0; c = get_or words (4 * r + 2) 0; d = get_or words (4 * r + 3) 0 }) ≡ round_key (octets_of_words (take nk words)) r
+unfolding round_key octets_of
+round_key_is words nk r is size in_rounds =
+    let facts = key_size (4 * nk) is.size in
+    let key_is = key_of_words words nk is.size size in
+    let count : 4 * (rounds (octets_of_words (take nk words)) + 1) ≡ 4 * nk + 28 = omega arith in
+    let kept : length (take (4 * nk + 28) words) ≡ 4 * nk + 28 = omega (arith, length-take (4 * nk + 28) words) in
+    sym (four_octets-take (4 * nk + 28) words (4 * r) (omega arith))
+    ∙ four_octets_is (take (4 * nk + 28) words) r (omega arith)
+    ∙ ap (λ (octets : List ℕ). take 16 (drop (16 * r) octets)) is.words
+    ∙ ap (λ (n : ℕ). take 16 (drop (16 * r) (schedule (octets_of_words (take nk words)) n))) (sym count)
 
 -- ---- whole rounds
 
@@ -150,13 +198,24 @@ round_injective a b w block_a block_b same =
     (mix_injective (shift_rows (sub_bytes a)) (shift_rows (sub_bytes b)) (IsBlock-shift_rows (sub_bytes a) sub_a) (IsBlock-shift_rows (sub_bytes b) sub_b)
     (add_injective (mix_columns (shift_rows (sub_bytes a))) (mix_columns (shift_rows (sub_bytes b))) w (IsBlock-mix_columns (shift_rows (sub_bytes a))) (IsBlock-mix_columns (shift_rows (sub_bytes b))) same)))
 
+-- SubBytes and ShiftRows undo their inverses
+pub shift_sub_undone : (s : List ℕ) → IsBlock s → shift_rows (sub_bytes (inverse_sub_bytes (inverse_shift_rows s))) ≡ s
+shift_sub_undone s block =
+    ap shift_rows (sub_undone (inverse_shift_rows s) (IsBlock-inverse_shift_rows s block)) ∙ shift_undone s block
+
+pub IsBlock-undone : (s : List ℕ) → IsBlock s → IsBlock (inverse_sub_bytes (inverse_shift_rows s))
+IsBlock-undone s block = IsBlock-inverse_sub_bytes (inverse_shift_rows s) (IsBlock-inverse_shift_rows s block)
+
 round_onto : (c w : List ℕ) → IsBlock c → AreOctets w → (b : List ℕ) × IsBlock b × (round b w ≡ c)
 round_onto c w block octets =
-    let s = add_onto c w block octets in
-    let t = mix_onto s.0 s.1 in
-    let u = shift_onto t.0 t.1 in
-    let v = sub_onto u.0 u.1 in
-    (v.0, v.1, rw (v.2, u.2, t.2) s.2)
+    let s = IsBlock-add_round_key c w block.octets octets in
+    let t = IsBlock-inverse_mix_columns (add_round_key c w) in (
+      inverse_sub_bytes (inverse_shift_rows (inverse_mix_columns (add_round_key c w))),
+      IsBlock-undone (inverse_mix_columns (add_round_key c w)) t,
+      ap (λ (u : List ℕ). add_round_key (mix_columns u) w) (shift_sub_undone (inverse_mix_columns (add_round_key c w)) t)
+          ∙ ap (λ (u : List ℕ). add_round_key u w) (mix_undone (add_round_key c w) s)
+          ∙ add_twice c w block.size,
+    )
 
 -- ---- the block after each round
 
@@ -176,7 +235,8 @@ state_injective key a b (suc n) is block_a block_b same =
 
 pub state_onto : (key c : List ℕ) (n : ℕ) → IsKey key → IsBlock c → (b : List ℕ) × IsBlock b × (state_after key b n ≡ c)
 unfolding state_after
-state_onto key c zero is block = add_onto c (round_key key 0) block (AreOctets-round_key key 0 is.octets)
+state_onto key c zero is block =
+    (add_round_key c (round_key key 0), IsBlock-add_round_key c (round_key key 0) block.octets (AreOctets-round_key key 0 is.octets), add_twice c (round_key key 0) block.size)
 state_onto key c (suc n) is block =
     let s = round_onto c (round_key key (suc n)) block (AreOctets-round_key key (suc n) is.octets) in
     let b = state_onto key s.0 n is s.1 in
@@ -201,20 +261,22 @@ aes_last key b s r r_is is = rw (is, r_is) refl
 
 -- ---- a round undone in the code
 
--- Of this block, after these rounds, the cipher makes c.
+-- Of this block, which ShiftRows gives in the round after these, the cipher makes c.
 abbrev pub LeadsTo : List ℕ → ℕ → List ℕ → List ℕ → Type 0
-LeadsTo key r s c = (b : List ℕ) → state_after key b r ≡ s → aes key b ≡ c
+LeadsTo key r s c = (b : List ℕ) → shift_rows (sub_bytes (state_after key b r)) ≡ s → aes key b ≡ c
 
-pub leads_last : (key c t u s : List ℕ) (r : ℕ) → length c ≡ 16 → r ≡ rounds key → t ≡ add_round_key c (round_key key r) → shift_rows u ≡ t → sub_bytes s ≡ u → LeadsTo key (r - 1) s c
-leads_last key c t u s r size r_is t_is u_is s_is = λ b after.
-    sym (aes_last key b s r r_is (sym after))
-    ∙ rw (s_is, u_is, t_is) (add_twice c (round_key key r) size)
+pub leads_last : (key c s : List ℕ) (r : ℕ) → length c ≡ 16 → r ≡ rounds key → s ≡ add_round_key c (round_key key r) → LeadsTo key (r - 1) s c
+leads_last key c s r size r_is s_is = λ b after.
+    sym (aes_last key b (state_after key b (r - 1)) r r_is refl)
+    ∙ rw (after, s_is) (add_twice c (round_key key r) size)
 
-pub leads_back : (key c s t u v s' : List ℕ) (r : ℕ) → length s ≡ 16 → LeadsTo key (suc r) s c → t ≡ add_round_key s (round_key key (suc r)) → mix_columns u ≡ t → shift_rows v ≡ u → sub_bytes s' ≡ v → LeadsTo key r s' c
+pub leads_back : (key c s t : List ℕ) (r : ℕ) → IsBlock s → LeadsTo key (suc r) s c → mix_columns t ≡ add_round_key (inverse_sub_bytes (inverse_shift_rows s)) (round_key key (suc r)) → LeadsTo key r t c
 unfolding state_after
-leads_back key c s t u v s' r size leads t_is u_is v_is s_is = λ b after.
-    leads b (rw (after, s_is, v_is, u_is, t_is) (add_twice s (round_key key (suc r)) size))
+leads_back key c s t r block leads t_is = λ b after.
+    leads b (rw (after, t_is, add_twice (inverse_sub_bytes (inverse_shift_rows s)) (round_key key (suc r)) (IsBlock-undone s block).size)
+    (shift_sub_undone s block))
 
-pub leads_first : (key c s b : List ℕ) → length s ≡ 16 → LeadsTo key 0 s c → b ≡ add_round_key s (round_key key 0) → aes key b ≡ c
+pub leads_first : (key c s b : List ℕ) → IsBlock s → LeadsTo key 0 s c → b ≡ add_round_key (inverse_sub_bytes (inverse_shift_rows s)) (round_key key 0) → aes key b ≡ c
 unfolding state_after
-leads_first key c s b size leads is = leads b (rw is (add_twice s (round_key key 0) size))
+leads_first key c s b block leads is =
+    leads b (rw (is, add_twice (inverse_sub_bytes (inverse_shift_rows s)) (round_key key 0) (IsBlock-undone s block).size) (shift_sub_undone s block))

@@ -1,10 +1,13 @@
 -- The tables against the S-box's definition.
-use Rattle.std.proofs.Common.{◌≡◌, ℕ, ◌<◌, List, map, get_or, refl, sym, ◌∙◌, ap, arith}
+use Rattle.std.proofs.Common.{◌≡◌, ℕ, ◌<◌, List, [], ◌∷◌, map, get_or, refl, sym, ◌∙◌, ap, arith}
 use Rattle.std.specs.List.{range_with_len}
 use Rattle.std.proofs.lemmas.List.FromFn.{get_or-map-range_with_len}
 use Rattle.perc_aes.specs.Field.{power_of_x, product, product_below, inverse}
+use Rattle.std.specs.Int.{w32, from_be_bytes}
 use Rattle.perc_aes.specs.Cipher.{sub_octet}
-use Rattle.perc_aes.specs.declared.tables.TheConstants.{S_BOX, INVERSE_S_BOX, ROUND_CONSTANTS}
+use Rattle.perc_aes.specs.Inverse.{inverse_sub_octet}
+use Rattle.perc_aes.specs.Words.{multiples}
+use Rattle.perc_aes.specs.declared.tables.TheConstants.{S_BOX, INVERSE_S_BOX, MIXED, UNMIXED, ROUND_CONSTANTS}
 use Rattle.perc_aes.proofs.Octets.{same_octets, below_256}
 
 -- the whole table, computed
@@ -20,8 +23,9 @@ pub sub_octet_in_range : (b : ℕ) → b < 256 → sub_octet b < 256
 sub_octet_in_range b in_range =
     rw (s_box_at b in_range) at (below_256 (λ b. get_or S_BOX b 0) refl b in_range)
 
-pub inverse_s_box_in_range : (b : ℕ) → b < 256 → get_or INVERSE_S_BOX b 0 < 256
-inverse_s_box_in_range b in_range = below_256 (λ b. get_or INVERSE_S_BOX b 0) refl b in_range
+pub inverse_sub_octet_in_range : (b : ℕ) → b < 256 → inverse_sub_octet b < 256
+unfolding inverse_sub_octet
+inverse_sub_octet_in_range b in_range = below_256 (λ b. get_or INVERSE_S_BOX b 0) refl b in_range
 
 round_constants_computed : map power_of_x (range_with_len 0 10) ≡ ROUND_CONSTANTS
 unfolding power_of_x
@@ -35,14 +39,29 @@ inverse_s_box : (b : ℕ) → b < 256 → get_or INVERSE_S_BOX (get_or S_BOX b 0
 inverse_s_box b in_range = same_octets (λ b. get_or INVERSE_S_BOX (get_or S_BOX b 0) 0) (λ b. b) refl b in_range
 
 -- the S-box undoes it
-pub sub_unsub : (b : ℕ) → b < 256 → sub_octet (get_or INVERSE_S_BOX b 0) ≡ b
-sub_unsub b in_range =
-    sym (s_box_at (get_or INVERSE_S_BOX b 0) (inverse_s_box_in_range b in_range)) ∙ s_box_inverse b in_range
+pub sub_inverse : (b : ℕ) → b < 256 → sub_octet (inverse_sub_octet b) ≡ b
+unfolding inverse_sub_octet
+sub_inverse b in_range =
+    sym (s_box_at (get_or INVERSE_S_BOX b 0) (inverse_sub_octet_in_range b in_range)) ∙ s_box_inverse b in_range
 
 -- it undoes the S-box
-pub unsub_sub : (b : ℕ) → b < 256 → get_or INVERSE_S_BOX (sub_octet b) 0 ≡ b
-unsub_sub b in_range =
+pub inverse_sub : (b : ℕ) → b < 256 → inverse_sub_octet (sub_octet b) ≡ b
+unfolding inverse_sub_octet
+inverse_sub b in_range =
     ap (λ (x : ℕ). get_or INVERSE_S_BOX x 0) (sym (s_box_at b in_range)) ∙ inverse_s_box b in_range
+
+-- ---- the tables joined with MixColumns and its inverse
+
+pub mixed_at : (b : ℕ) → b < 256 → get_or MIXED b 0 ≡ from_be_bytes w32 (multiples (2 ∷ 1 ∷ 1 ∷ 3 ∷ []) (sub_octet b))
+unfolding product product_below
+mixed_at b in_range =
+    same_octets (λ b. get_or MIXED b 0) (λ b. from_be_bytes w32 (multiples (2 ∷ 1 ∷ 1 ∷ 3 ∷ []) (get_or S_BOX b 0))) refl b in_range
+    ∙ ap (λ (v : ℕ). from_be_bytes w32 (multiples (2 ∷ 1 ∷ 1 ∷ 3 ∷ []) v)) (s_box_at b in_range)
+
+pub unmixed_at : (b : ℕ) → b < 256 → get_or UNMIXED b 0 ≡ from_be_bytes w32 (multiples (14 ∷ 9 ∷ 13 ∷ 11 ∷ []) (inverse_sub_octet b))
+unfolding product product_below inverse_sub_octet
+unmixed_at b in_range =
+    same_octets (λ b. get_or UNMIXED b 0) (λ b. from_be_bytes w32 (multiples (14 ∷ 9 ∷ 13 ∷ 11 ∷ []) (get_or INVERSE_S_BOX b 0))) refl b in_range
 
 -- each constant
 pub round_constant_at : (i : ℕ) → i < 10 → get_or ROUND_CONSTANTS i 0 ≡ power_of_x i

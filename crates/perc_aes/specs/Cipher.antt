@@ -1,7 +1,8 @@
 -- The block cipher AES (FIPS 197). A block, a key, a word and a key schedule are lists of octets.
-use Rattle.std.specs.Prelude.{◌≡◌, ℕ, zero, suc, ◌+◌, ◌-◌, ◌*◌, ◌/◌, ◌%◌, ◌^◌, ◌<◌, ◌⊎◌, if◌then◌else◌, ◌==◌, ◌&&◌, nat_lt, List, [], ◌∷◌, ◌++◌, length, map, take, drop, slice_index, slice_index_or}
+use Rattle.std.specs.Prelude.{◌≡◌, ℕ, zero, suc, ◌+◌, ◌-◌, ◌*◌, ◌/◌, ◌%◌, ◌^◌, ◌⊎◌, if◌then◌else◌, ◌==◌, ◌&&◌, nat_lt, List, [], ◌∷◌, ◌++◌, length, map, take, drop, slice_index, slice_index_or}
 use Rattle.std.specs.Int.{bit_at}
 use Rattle.std.specs.List.{range_with_len, sum_by}
+use Rattle.perc_aes.specs.Octets.{AreOctets}
 use Rattle.perc_aes.specs.Field.{add, total, power_of_x, product, inverse}
 
 -- ---- the state (section 3.4): four rows and four columns of octets, column after column
@@ -128,7 +129,7 @@ aes key block = last_round key (state_after key block (rounds key - 1))
 -- This is a block: 16 octets.
 pub record IsBlock (b : List ℕ) : Type 0 where
   pub size : length b ≡ 16
-  pub octets : (k : ℕ) → slice_index b k < 256
+  pub octets : AreOctets b
 
 -- a key has 16, 24 or 32 octets
 abbrev pub IsKeyLength : ℕ → Type 0
@@ -137,4 +138,4 @@ IsKeyLength n = (n ≡ 16) ⊎ ((n ≡ 24) ⊎ (n ≡ 32))
 -- This is a key.
 pub record IsKey (key : List ℕ) : Type 0 where
   pub size : IsKeyLength (length key)
-  pub octets : (k : ℕ) → slice_index key k < 256
+  pub octets : AreOctets key

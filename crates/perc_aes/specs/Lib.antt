@@ -1,3 +1,6 @@
 pub mod Cipher
 pub mod Field
+pub mod Inverse
 pub mod KeySchedule
+pub mod Octets
+pub mod Words

@@ -1,66 +1,70 @@
-// Key expansion (FIPS 197 section 5.2). A schedule is kept as octets, word after word.
-ghost use Rattle.std.specs.Prelude.{◌≡◌, ◌+◌, ◌*◌, ◌/◌, ◌<◌, ◌≤◌, length, take};
-ghost use Rattle.perc_aes.specs.Cipher.{IsKeyLength, add_words, schedule, schedule_core, word_at};
+// Key expansion (FIPS 197 section 5.2).
+ghost use Rattle.std.specs.Prelude.{◌≡◌, ◌+◌, ◌*◌, ◌/◌, ◌<◌, ◌≤◌, length, slice_index, take};
+ghost use Rattle.perc_aes.specs.Cipher.{IsKeyLength, round_constant, schedule, schedule_core};
+ghost use Rattle.perc_aes.specs.Words.{octets_of_word, octets_of_words};
 
-use crate::tables::{power_of_x, sub_octet};
+use crate::cipher::sub_word;
+use crate::state::{State, word_at};
+use crate::tables::power_of_x;
 
-/// The octets of the longest schedule, which has 60 words.
-pub(crate) const SCHEDULE_SIZE: usize = 240;
-
-// Word i of a schedule.
-fn word_at(octets: &[u8; SCHEDULE_SIZE], i: usize) -> [u8; 4]
-    requires { i < 60 }
-    ensures { result ≡ word_at octets.now i }
-{
-    [
-        octets[4 * i],
-        octets[4 * i + 1],
-        octets[4 * i + 2],
-        octets[4 * i + 3],
-    ]
-}
-
-// The sum of two words.
-fn add_words(v: [u8; 4], w: [u8; 4]) -> [u8; 4]
-    ensures { result ≡ add_words v w }
-{
-    [v[0] ^ w[0], v[1] ^ w[1], v[2] ^ w[2], v[3] ^ w[3]]
-}
+/// The words of the longest schedule.
+pub(crate) const SCHEDULE_WORDS: usize = 60;
 
 // What word i is made of, from the word before it, beside the word as many places back as the key has words.
-fn schedule_core(key_words: usize, i: usize, before: [u8; 4]) -> [u8; 4]
+fn schedule_core(key_words: usize, i: usize, before: u32) -> u32
     requires words { 0 < key_words }
     requires after_key { key_words ≤ i }
     requires few { i / key_words ≤ 10 }
-    ensures { result ≡ schedule_core key_words i before }
+    ensures { octets_of_word result ≡ schedule_core key_words i (octets_of_word before) }
 {
-    let [a, b, c, d] = before;
     if i % key_words == 0 {
-        let constant = power_of_x(i / key_words - 1);
-        [
-            sub_octet(b) ^ constant,
-            sub_octet(c),
-            sub_octet(d),
-            sub_octet(a),
-        ]
+        sub_word(before.rotate_left(8)) ^ round_constant(i / key_words)
     } else if key_words == 8 && i % 8 == 4 {
-        [sub_octet(a), sub_octet(b), sub_octet(c), sub_octet(d)]
+        sub_word(before)
     } else {
         before
     }
 }
 
-// Writes the schedule of the key that is the first key_size octets behind it.
-pub(crate) fn expand(octets: &mut [u8; SCHEDULE_SIZE], key_size: usize)
-    requires { IsKeyLength key_size }
-    ensures words { take (key_size * 4 + 112) octets.new
-        ≡ schedule (take key_size octets.old) (key_size + 28) }
-    ensures key { take key_size octets.new ≡ take key_size octets.old }
+// The constant of a round, from 1 on.
+fn round_constant(round: usize) -> u32
+    requires some { 0 < round }
+    requires few { round ≤ 10 }
+    ensures { octets_of_word result ≡ round_constant round }
 {
-    let key_words = key_size / 4;
-    for i in key_words..key_size + 28 {
-        let core = schedule_core(key_words, i, word_at(octets, i - 1));
-        let word = add_words(word_at(octets, i - key_words), core);
-        octets[4 * i..4 * i + 4].copy_from_slice(&word);
+    u32::from(power_of_x(round - 1)) << 24
+}
+
+// Writes the words of a key.
+pub(crate) fn copy_key(words: &mut [u32; SCHEDULE_WORDS], key: &[u8])
+    requires { IsKeyLength (length key.now) }
+    ensures { octets_of_words (take (length key.now / 4) words.new) ≡ key.now }
+{
+    for i in 0..key.len() / 4 {
+        words[i] = word_at(key, i);
+    }
+}
+
+// Writes the schedule of the key that is the first key_words words behind it.
+pub(crate) fn expand(words: &mut [u32; SCHEDULE_WORDS], key_words: usize)
+    requires { IsKeyLength (4 * key_words) }
+    ensures words { octets_of_words (take (4 * key_words + 28) words.new) ≡ schedule (octets_of_words (take key_words words.old)) (4 * key_words + 28) }
+    ensures key { take key_words words.new ≡ take key_words words.old }
+{
+    for i in key_words..4 * key_words + 28 {
+        words[i] = words[i - key_words] ^ schedule_core(key_words, i, words[i - 1]);
+    }
+}
+
+// The state of the four words from a place on.
+pub(crate) fn four_words(words: &[u32; SCHEDULE_WORDS], place: usize) -> State
+    requires { place + 4 ≤ 60 }
+    ensures { result ≡ record { a = slice_index words.now place; b = slice_index words.now (place + 1); c = slice_index words.now (place + 2); d = slice_index words.now (place + 3) } }
+{
+    State {
+        a: words[place],
+        b: words[place + 1],
+        c: words[place + 2],
+        d: words[place + 3],
     }
 }

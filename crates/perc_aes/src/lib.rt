@@ -2,40 +2,43 @@
 #![tactic(auto)]
 
 ghost use Rattle.std.specs.Prelude.{◌≡◌, ℕ, ◌≤◌, List, length, SomeIff};
-ghost use Rattle.perc_aes.specs.Cipher.{IsBlock, IsKey, IsKeyLength, add_round_key, aes, round_key, rounds};
+ghost use Rattle.perc_aes.specs.Cipher.{IsBlock, IsKey, IsKeyLength, aes, round_key, rounds};
+ghost use Rattle.perc_aes.specs.Words.{octets_of};
 
+mod cipher;
 mod expansion;
-mod field;
 pub mod laws;
-mod steps;
+#[cfg(test)]
+mod plain;
+mod state;
 mod tables;
 #[cfg(test)]
 mod tests;
 
-use expansion::{SCHEDULE_SIZE, expand};
+use cipher::{inverse_last_round, inverse_round, last_round, whole_round};
+use expansion::{SCHEDULE_WORDS, copy_key, expand, four_words};
+use state::State;
 use std::marker::Model;
-use steps::{
-    inverse_mix_columns, inverse_shift_rows, inverse_sub_bytes, mix_columns, shift_rows, sub_bytes,
-};
 
 /// A key of 128, 192 or 256 bits with its schedule (FIPS 197 section 5.2). Its value is the key's octets.
 #[derive(Drop)]
 pub struct AesKey {
-    /// How many octets the key has.
-    key_size: usize,
-    /// The schedule, which begins with the key.
-    octets: [u8; SCHEDULE_SIZE],
+    /// How many words the key has.
+    key_words: usize,
+    /// The words of the schedule, which begins with the key.
+    words: [u32; SCHEDULE_WORDS],
 }
 
 impl Model for AesKey {
     ghost use Rattle.std.specs.Prelude.{List, ℕ, take};
     ghost use Rattle.perc_aes.specs.KeySchedule.{IsSchedule};
+    ghost use Rattle.perc_aes.specs.Words.{octets_of_words};
 
     ghost Value = { List ℕ };
 
-    ghost view = { λ a. take a.key_size a.octets };
+    ghost view = { λ a. octets_of_words (take a.key_words a.words) };
 
-    ghost invariant = { λ a. IsSchedule a.octets a.key_size };
+    ghost invariant = { λ a. IsSchedule a.words a.key_words };
 }
 
 impl AesKey {
@@ -46,13 +49,11 @@ impl AesKey {
         if !matches!(key.len(), 16 | 24 | 32) {
             return None;
         }
-        let mut octets = [0; SCHEDULE_SIZE];
-        octets[..key.len()].copy_from_slice(key);
-        expand(&mut octets, key.len());
-        Some(AesKey {
-            key_size: key.len(),
-            octets,
-        })
+        let key_words = key.len() / 4;
+        let mut words = [0; SCHEDULE_WORDS];
+        copy_key(&mut words, key);
+        expand(&mut words, key_words);
+        Some(AesKey { key_words, words })
     }
 
     /// Encrypts a block of 16 octets in place: the cipher of FIPS 197 section 5.1.
@@ -61,16 +62,12 @@ impl AesKey {
         ensures key { IsKey self.now }
     {
         let last = self.rounds();
-        self.add_round_key(block, 0);
+        let mut state = State::of_block(block).add(self.round_key(0));
         for round in 1..last {
-            sub_bytes(block);
-            shift_rows(block);
-            mix_columns(block);
-            self.add_round_key(block, round);
+            state = whole_round(state, self.round_key(round));
         }
-        sub_bytes(block);
-        shift_rows(block);
-        self.add_round_key(block, last);
+        let octets = last_round(state, self.round_key(last)).block();
+        *block = octets;
     }
 
     /// Decrypts a block of 16 octets in place: the inverse cipher of FIPS 197 section 5.3. It leaves the one block
@@ -82,16 +79,12 @@ impl AesKey {
         ensures key { IsKey self.now }
     {
         let rounds = self.rounds();
-        self.add_round_key(block, rounds);
-        inverse_shift_rows(block);
-        inverse_sub_bytes(block);
+        let mut state = State::of_block(block).add(self.round_key(rounds));
         for round in (1..rounds).rev() {
-            self.add_round_key(block, round);
-            inverse_mix_columns(block);
-            inverse_shift_rows(block);
-            inverse_sub_bytes(block);
+            state = inverse_round(state, self.round_key(round));
         }
-        self.add_round_key(block, 0);
+        let octets = inverse_last_round(state, self.round_key(0)).block();
+        *block = octets;
     }
 
     // How many rounds the key has: 10, 12 or 14.
@@ -99,17 +92,15 @@ impl AesKey {
         ensures value { result ≡ rounds self.now }
         ensures key { IsKey self.now }
     {
-        self.key_size / 4 + 6
+        self.key_words + 6
     }
 
-    // Adds the key of a round.
-    fn add_round_key(&self, block: &mut [u8; 16], round: usize)
+    // The key of a round.
+    fn round_key(&self, round: usize) -> State
         requires { round ≤ rounds self.now }
-        ensures value { block.new ≡ add_round_key block.old (round_key self.now round) }
-        ensures block { IsBlock block.new }
+        ensures { octets_of result ≡ round_key self.now round }
     {
-        let octets = &self.octets;
-        let start = 16 * round;
-        steps::add_round_key(block, &octets[start..start + 16]);
+        let words = &self.words;
+        four_words(words, 4 * round)
     }
 }

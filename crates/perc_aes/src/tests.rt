@@ -1,8 +1,8 @@
 // The cipher against outside vectors, and the lengths of keys.
-ghost use Rattle.std.specs.Prelude.{◌<◌};
-
 use super::*;
+use hex::FromHexError;
 use std::process::Abort;
+use std::test::Fail;
 
 // Key, block, and what the cipher makes of it.
 const VECTORS: [(&str, &str, &str); 33] = [
@@ -173,46 +173,63 @@ const VECTORS: [(&str, &str, &str); 33] = [
     ),
 ];
 
-fn digit(text: u8) -> u8
-    ensures { result < 16 }
-{
-    match text {
-        b'0'..=b'9' => text - b'0',
-        b'a'..=b'f' => text - b'a' + 10,
-        _ => 0,
-    }
+// Encrypts one block and decrypts it again, by the words and octet by octet.
+fn both_ways(rt: &impl Abort, key: &[u8; 32], key_size: usize, plain: [u8; 16]) -> [u8; 16] {
+    let size = key_size.clamp(16, 32);
+    let aes = AesKey::new(&key[..size]).expect(rt, "the length is one of a key");
+    let mut block = plain;
+    aes.encrypt_block(&mut block);
+    let cipher = block;
+    let mut other = plain;
+    plain::encrypt(key, size, &mut other);
+    assert_eq!(rt; other, cipher);
+    aes.decrypt_block(&mut block);
+    assert_eq!(rt; block, plain);
+    plain::decrypt(key, size, &mut other);
+    assert_eq!(rt; other, plain);
+    cipher
 }
 
-fn octets<const N: usize>(hex: &str) -> [u8; N] {
-    let hex = hex.as_bytes();
-    let mut octets = [0; N];
-    for i in 0..N {
-        if 2 * i + 1 < hex.len() {
-            octets[i] = 16 * digit(hex[2 * i]) + digit(hex[2 * i + 1]);
-        }
-    }
-    octets
-}
-
-fn key_of(hex: &str) -> Option<AesKey> {
-    let size = (hex.len() / 2).min(32);
-    AesKey::new(&octets::<32>(hex)[..size])
-}
-
-// Encrypts one block, and decrypts it again.
-fn both_directions_of(rt: &impl Abort, key: &str, plain: &str, cipher: &str) {
-    let key = key_of(key).expect(rt, "the length is one of a key");
-    let mut block = octets::<16>(plain);
-    key.encrypt_block(&mut block);
-    assert_eq!(rt; block, octets::<16>(cipher));
-    key.decrypt_block(&mut block);
-    assert_eq!(rt; block, octets::<16>(plain));
+// A key and a block of a table's row.
+fn check_vector(rt: &impl Abort, key: &str, plain: &str, cipher: &str) -> Result<(), FromHexError> {
+    let size = (key.len() / 2).min(32);
+    let mut octets = [0; 32];
+    hex::decode_to_slice(key, &mut octets[..size])?;
+    let mut block = [0; 16];
+    hex::decode_to_slice(plain, &mut block)?;
+    let mut want = [0; 16];
+    hex::decode_to_slice(cipher, &mut want)?;
+    assert_eq!(rt; both_ways(rt, &octets, size, block), want);
+    Ok(())
 }
 
 #[test]
-fn both_directions(rt: HostRuntime) {
+fn vectors(rt: HostRuntime) -> Result<(), Fail> {
     for vector in &VECTORS {
-        both_directions_of(&rt, vector.0, vector.1, vector.2);
+        check_vector(&rt, vector.0, vector.1, vector.2)?;
+    }
+    Ok(())
+}
+
+// Octets that look drawn at random.
+fn draw(state: &mut u64, octets: &mut [u8]) {
+    for octet in octets {
+        *state = state
+            .wrapping_mul(6_364_136_223_846_793_005)
+            .wrapping_add(1_442_695_040_888_963_407);
+        *octet = (*state >> 56) as u8;
+    }
+}
+
+#[test]
+fn words_as_octets(rt: HostRuntime) {
+    let mut state = 5501;
+    let mut key = [0; 32];
+    let mut block = [0; 16];
+    for i in 0..300 {
+        draw(&mut state, &mut key);
+        draw(&mut state, &mut block);
+        both_ways(&rt, &key, 16 + i % 3 * 8, block);
     }
 }
 
