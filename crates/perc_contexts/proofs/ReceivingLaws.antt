@@ -17,7 +17,8 @@ use Rattle.perc_contexts.proofs.Committing.{is_its, holds_none, none_here, commi
 use Rattle.perc_contexts.specs.declared.TryPlace.{TryPlace}
 use Rattle.perc_contexts.specs.declared.TryPlace.TheVariants.{Held, New}
 use Rattle.perc_contexts.specs.declared.Try.{Try}
-use Rattle.perc_contexts.specs.Kept.{Kept, StandsFor, IsTry, AreTries, IsPlace, MayCommit}
+use Rattle.perc_contexts.specs.Kept.{Kept, StandsFor, IsTry, AreTries, IsAnswer, IsPlace, MayCommit, CanCommit}
+use Rattle.arrayvec.specs.ArrayVec.{ArrayVec}
 use Rattle.perc_window.specs.declared.window.Freshness.TheVariants.{Fresh}
 
 -- A context is held, or it is the new one of the carried key, which has none yet.
@@ -248,3 +249,46 @@ committed_other a [] spi ssrc key other = rw (committed-nil a) (rw other refl)
 committed_other a (c ∷ contexts) spi ssrc key other =
     rw (committed-cons a c contexts (is_its a c) refl)
     (other_found a spi ssrc key c contexts (is_its a c) refl other (committed_other a contexts spi ssrc key other))
+
+-- ---- an answer of the code
+
+-- The code answered with these tries.
+pub record IsAnswered (held : Receiving) (ssrc seq : ℕ) (carried : Option Carried) (list : List Try) : Type 0 where
+  pub attempts : List Attempt
+  pub is : tries held.contexts ssrc seq carried ≡ Ok attempts
+  pub are : AreTries held.contexts ssrc carried list attempts
+
+answered_by : (held : Receiving) (ssrc seq : ℕ) (carried : Option Carried) (list : ArrayVec Try) (r : Result (List Attempt) KeyLimit)
+    → tries held.contexts ssrc seq carried ≡ r → IsAnswer held.contexts ssrc carried r (Ok list) → IsAnswered held ssrc seq carried list.items
+answered_by held ssrc seq carried list (Ok attempts) e h = record { attempts = attempts; is = e; are = h }
+answered_by held ssrc seq carried list (Err f) e h = absurd h
+
+pub answered : (held : Receiving) (ssrc seq : ℕ) (carried : Option Carried) (list : ArrayVec Try)
+    → IsAnswer held.contexts ssrc carried (tries held.contexts ssrc seq carried) (Ok list) → IsAnswered held ssrc seq carried list.items
+answered held ssrc seq carried list h = answered_by held ssrc seq carried list (tries held.contexts ssrc seq carried) refl h
+
+-- One of them stands for an attempt ..
+pub answered_one : (held : Receiving) (ssrc seq : ℕ) (carried : Option Carried) (list : List Try) (t : Try) (h : IsAnswered held ssrc seq carried list)
+    → Contains list t → IsOneOf held ssrc carried h.attempts t
+answered_one held ssrc seq carried list t h there =
+    All-contains (IsOneOf held ssrc carried h.attempts) list t (tries_are_of held ssrc carried h.attempts list h.are) there
+
+-- .. a context is kept at its place where it names one ..
+pub answered_place : (kept : Kept) (held : Receiving) (ssrc seq : ℕ) (carried : Option Carried) (list : List Try) (t : Try) → StandsFor kept held
+    → IsAnswered held ssrc seq carried list → Contains list t → IsPlace kept.contexts t.place
+answered_place kept held ssrc seq carried list t stands h there =
+    let one = answered_one held ssrc seq carried list t h there in
+    is_place kept held ssrc carried t one.attempt t.place stands refl one.is_try
+
+-- .. and it may be committed where it is fresh.
+pub answered_commit : (kept : Kept) (held : Receiving) (ssrc seq : ℕ) (carried : Option Carried) (list : List Try) (t : Try) → seq < 65536
+    → StandsFor kept held → IsAnswered held ssrc seq carried list → Contains list t
+    → ((a : Attempt) → IsTry held.contexts ssrc carried t a → Fresh ≡ freshness_of a) → CanCommit kept ssrc carried t
+answered_commit kept held ssrc seq carried list t fits stands h there fresh =
+    let one = answered_one held ssrc seq carried list t h there in
+    record {
+      held = held;
+      attempt = one.attempt;
+      stands = stands;
+      may = may_commit held ssrc seq carried h.attempts t one.attempt fits h.is one.is_try one.there (sym (fresh one.attempt one.is_try));
+    }

@@ -211,3 +211,6 @@ fn retire(live: &mut ArrayVec<u16, LIVE_SPIS>) -> Option<u16>
         None
     }
 }
+
+#[cfg(test)]
+mod tests;
