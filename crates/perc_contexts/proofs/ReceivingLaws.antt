@@ -50,8 +50,7 @@ attempt_is : (contexts : List Context) (ssrc seq : ℕ) (carried : Option Carrie
     → AllByRecursion (IsTried contexts ssrc seq carried) (cons_option (option_map (λ index. record { context = c; index = index }) o) others)
 attempt_is contexts ssrc seq carried c None others fits e held rest = rest
 attempt_is contexts ssrc seq carried c (Some index) others fits e held rest =
-    let near = nearest_some (greatest c.accepted) seq index fits e in
-    (
+    let near = nearest_some (greatest c.accepted) seq index fits e in (
       record {
         context = IsHeld held.0;
         sender = eqb-true c.ssrc ssrc held.1;
@@ -98,7 +97,7 @@ carried_by contexts ssrc carried c (Some d) full e f h =
     let same : Ok d ≡ Ok c = rw e at h in let is : d ≡ c = cc in
     let there = found_of (is_of carried.spi ssrc carried.key) contexts d e in
     (IsHeld (subst (λ x. Contains contexts x) is there.0), sym (ap (λ x. x.ssrc) is) ∙ (is_of-parts carried.spi ssrc carried.key d there.1).1)
-carried_by contexts ssrc carried c None true e f h = let bad : Err (record { }) ≡ Ok c = rw (e, f) at h in absurd (cc)
+carried_by contexts ssrc carried c None true e f h = let bad : ◌≡◌ {A = Result Context KeyLimit} (Err (record {})) (Ok c) = rw (e, f) at h in absurd (cc)
 carried_by contexts ssrc carried c None false e f h =
     let same : Ok (new_context ssrc carried) ≡ Ok c = rw (e, f) at h in let is : new_context ssrc carried ≡ c = cc in
     (IsNew carried refl (sym is) e f, ap (λ x. x.ssrc) (sym is))
@@ -176,11 +175,10 @@ each_of : (held : Receiving) (ssrc : ℕ) (carried : Option Carried) (attempts :
 each_of held ssrc carried [] [] are = tt
 each_of held ssrc carried (a ∷ attempts) [] are = tt
 each_of held ssrc carried [] (t ∷ list) are = absurd are
-each_of held ssrc carried (a ∷ attempts) (t ∷ list) are =
-    (
-      record { attempt = a; is_try = are.0; there = (0, omega arith, refl) },
-      later_all held ssrc carried a attempts list (each_of held ssrc carried attempts list are.1),
-    )
+each_of held ssrc carried (a ∷ attempts) (t ∷ list) are = (
+  record { attempt = a; is_try = are.0; there = (0, omega arith, refl) },
+  later_all held ssrc carried a attempts list (each_of held ssrc carried attempts list are.1),
+)
 
 -- Each of the code's tries stands for one of those that are told.
 pub tries_are_of : (held : Receiving) (ssrc : ℕ) (carried : Option Carried) (attempts : List Attempt) (list : List Try)
