@@ -102,12 +102,11 @@ committed_all a P Q (c ∷ contexts) keeps new apart all =
 distinct_by : (a : Attempt) (c : Context) (contexts : List Context) (its : Bool) → is_its a c ≡ its → Pairs Apart (committed a contexts)
     → Pairs Apart (c ∷ contexts) → Pairs Apart (committed_by a c contexts its)
 distinct_by a c contexts true e rest apart = apart
-distinct_by a c contexts false e rest apart =
-    (
-      committed_all a (Apart c) (Apart c) contexts (record { other = λ d _ far. far; its = λ d _ far. far })
+distinct_by a c contexts false e rest apart = (
+  committed_all a (Apart c) (Apart c) contexts (record { other = λ d _ far. far; its = λ d _ far. far })
       (λ none same. both_ways (is_its a c) e (same-sym c a.context same)) apart.1 apart.0,
-      rest,
-    )
+  rest,
+)
 
 pub committed_distinct : (a : Attempt) (contexts : List Context) → Pairs Apart contexts → Pairs Apart (committed a contexts)
 committed_distinct a [] apart = rw (committed-nil a) (tt, tt)
@@ -126,8 +125,7 @@ pub well_kept_held : (kept : List KeptContext) (contexts : List Context) (place 
     → IsWellKept (set kept place k) room × AreOf (set kept place k) (committed a contexts)
 well_kept_held kept contexts place a k room well are at one =
     let apart = distinct_held kept contexts are (pairs-from KeptApart kept well.distinct) in
-    let after = committed_held kept contexts place a k apart are at one in
-    (
+    let after = committed_held kept contexts place a k apart are at one in (
       record {
         few = omega (arith, length-set kept place k, well.few);
         room_is = well.room_is;
@@ -141,8 +139,7 @@ pub well_kept_new : (kept : List KeptContext) (contexts : List Context) (a : Att
     → IsWellKept (kept ++ k ∷ []) room × AreOf (kept ++ k ∷ []) (committed a contexts)
 well_kept_new kept contexts a k room well are few none one =
     let apart = distinct_held kept contexts are (pairs-from KeptApart kept well.distinct) in
-    let after = committed_new kept contexts a k none are one in
-    (
+    let after = committed_new kept contexts a k none are one in (
       record {
         few = omega (arith, length_push kept k);
         room_is = well.room_is;

@@ -170,7 +170,7 @@ accepting_by held ssrc carried a done c same (IsNew key e new none full) live h 
     let its_none : holds_none a held.contexts = subst (λ c. find (is_of c.spi c.ssrc c.key) held.contexts ≡ None) (sym is) none in record {
       live = its_live;
       accepted = ap (λ c. c.accepted) is ∙ nothing_under a held.contexts held.live done its_none its_live
-        (recursion_from_All (IsKeptOf held.live held.contexts) done h.kept);
+          (recursion_from_All (IsKeptOf held.live held.contexts) done h.kept);
     }
 
 -- A fresh index wasn't accepted under it before.
@@ -209,19 +209,19 @@ accepted_history held ssrc carried a done commit h =
     let all_done = AllByRecursion (IsKeptOf held.live held.contexts) in record {
       rising = h.rising;
       live = All-from_recursion _ _ (committed_all a (λ c. IsTrue (is_live held.live c.spi)) (λ c. IsTrue (is_live held.live c.spi)) held.contexts
-        (record { other = λ c _ live. live; its = λ c _ live. live }) (λ _. it.live) apart (recursion_from_All _ held.contexts h.live));
+          (record { other = λ c _ live. live; its = λ c _ live. live }) (λ _. it.live) apart (recursion_from_All _ held.contexts h.live));
       distinct = pairs-to Apart _ (committed_distinct a held.contexts apart);
       accepted = All-from_recursion _ _ (committed_all a (λ c. c.accepted ≡ indices_under c done) (λ c. c.accepted ≡ indices_under c (acceptance_of a ∷ done)) held.contexts
-        (record {
-          other = λ c e was. was ∙ sym (under_by a done c false e);
-          its = λ c e was. ap (λ l. a.index ∷ l) was ∙ sym (under_by a done (with_index a.index c) true e);
-        })
-        (λ _. ap (λ l. a.index ∷ l) it.accepted ∙ sym (under_by a done (with_index a.index a.context) true (same-refl a.context)))
-        apart (recursion_from_All _ held.contexts h.accepted));
+          (record {
+            other = λ c e was. was ∙ sym (under_by a done c false e);
+            its = λ c e was. ap (λ l. a.index ∷ l) was ∙ sym (under_by a done (with_index a.index c) true e);
+          })
+          (λ _. ap (λ l. a.index ∷ l) it.accepted ∙ sym (under_by a done (with_index a.index a.context) true (same-refl a.context)))
+          apart (recursion_from_All _ held.contexts h.accepted));
       kept = All-cons (IsKeptOf held.live (committed a held.contexts)) (acceptance_of a) done (λ _. held_its a held.contexts)
-        (λ k d within live. held_commit a _ held.contexts (λ c index under. under) (h.kept k d within live));
+          (λ k d within live. held_commit a _ held.contexts (λ c index under. under) (h.kept k d within live));
       once = AllPairs-cons (λ x y. x ≢ y) (acceptance_of a) done
-        (All-from_recursion _ done (differs a done (index_new a.context a.index done (rw (← it.accepted) fresh)))) h.once;
+          (All-from_recursion _ done (differs a done (index_new a.context a.index done (rw (← it.accepted) fresh)))) h.once;
       past = All-cons (IsPast held.live) (acceptance_of a) done (live_latest held.live a.context.spi (rises held.live h.rising) it.live) h.past;
     }
 

@@ -63,9 +63,9 @@ above_all [] spi h above = tt
 above_all (x ∷ xs) spi h above =
     let last = last_of x xs h in let below : last.0 < spi = rw last.1 at above.above in
     lower (x ∷ xs) last.0 spi below last.2 where
-  lower : (live : List ℕ) (last spi : ℕ) → last < spi → AllByRecursion (λ s. s ≤ last) live → AllByRecursion (λ s. s < spi) live
-  lower [] last spi below all = tt
-  lower (s ∷ live) last spi below all = (omega (arith, all.0), lower live last spi below all.1)
+      lower : (live : List ℕ) (last spi : ℕ) → last < spi → AllByRecursion (λ s. s ≤ last) live → AllByRecursion (λ s. s < spi) live
+      lower [] last spi below all = tt
+      lower (s ∷ live) last spi below all = (omega (arith, all.0), lower live last spi below all.1)
 
 drop_all : (P : ℕ → Type 0) (n : ℕ) (xs : List ℕ) → AllByRecursion P xs → AllByRecursion P (drop n xs)
 drop_all P zero xs all = all

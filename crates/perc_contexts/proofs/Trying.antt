@@ -92,11 +92,11 @@ FoundFor contexts ssrc seq carried (Err e) (Err f) = Unit {0}
 -- by the place of its context
 abbrev try_at : Option ℕ → Bool → ℕ → Result Try KeyLimit
 try_at (Some place) full index = Ok (record { place = Held place; index = index })
-try_at None full index = cond full (Err (record { })) (Ok (record { place = New; index = index }))
+try_at None full index = cond full (Err (record {})) (Ok (record { place = New; index = index }))
 
 abbrev context_for : Option Context → Bool → Context → Result Context KeyLimit
 context_for (Some c) full new = Ok c
-context_for None full new = cond full (Err (record { })) (Ok new)
+context_for None full new = cond full (Err (record {})) (Ok new)
 
 try_at_is : (kept : List KeptContext) (ssrc seq : ℕ) (carried : Carried) (o : Option ℕ) → position (is_kept_of carried.spi ssrc carried.key) kept ≡ o
     → carried_try kept ssrc seq carried ≡ try_at o (is_kept_full kept carried.spi ssrc) (carried.roc * 65536 + seq)

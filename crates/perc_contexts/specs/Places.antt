@@ -17,7 +17,7 @@ abbrev pub carried_try : List KeptContext → ℕ → ℕ → Carried → Result
 carried_try kept ssrc seq c = at (position (is_kept_of c.spi ssrc c.key) kept) where
   at : Option ℕ → Result Try KeyLimit
   at (Some place) = Ok (record { place = Held place; index = c.roc * 65536 + seq })
-  at None = if is_kept_full kept c.spi ssrc then Err (record { }) else Ok (record { place = New; index = c.roc * 65536 + seq })
+  at None = if is_kept_full kept c.spi ssrc then Err (record {}) else Ok (record { place = New; index = c.roc * 65536 + seq })
 
 -- a try at a place, if it has an index, before others
 abbrev pub with_try : Option ℕ → ℕ → List Try → List Try

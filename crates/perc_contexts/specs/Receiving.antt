@@ -119,7 +119,7 @@ abbrev pub carried_context : List Context → ℕ → Carried → Result Context
 carried_context contexts ssrc carried = at (context_of contexts carried.spi ssrc carried.key) where
   at : Option Context → Result Context KeyLimit
   at (Some c) = Ok c
-  at None = if is_full contexts carried.spi ssrc then Err (record { }) else Ok (new_context ssrc carried)
+  at None = if is_full contexts carried.spi ssrc then Err (record {}) else Ok (new_context ssrc carried)
 
 -- The tries of a packet with this SSRC and this SEQ: first under the key that it carries, at the carried ROC; then under
 -- the newest contexts of its sender. No key that is carried is refused but for want of room.

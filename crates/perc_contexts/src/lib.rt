@@ -139,7 +139,12 @@ impl Contexts {
     /// roll-over counter, then under the four contexts of its SSRC that were installed last, the newest first, over all live
     /// SPIs together, each at the index nearest to its highest; one of them without such an index is left out. Refused where
     /// a key is carried that has no context, and there is no room for one.
-    pub fn tries(&self, ssrc: u32, seq: u16, carried: Option<&CarriedKey<'_>>) -> Result<TryList, KeyLimit>
+    pub fn tries(
+        &self,
+        ssrc: u32,
+        seq: u16,
+        carried: Option<&CarriedKey<'_>>,
+    ) -> Result<TryList, KeyLimit>
         requires { IsCarried self.now.live (told carried) }
         ensures { (held : Receiving) → StandsFor self.now held → IsAnswer held.contexts ssrc (told carried.entry) (spec.tries held.contexts ssrc seq (told carried.entry)) result }
     {
@@ -211,3 +216,6 @@ fn retire(live: &mut ArrayVec<u16, LIVE_SPIS>) -> Option<u16>
         None
     }
 }
+
+#[cfg(test)]
+mod tests;

@@ -7,5 +7,5 @@ abbrev pub invariant-loop-place : goal.invariant-loop-place
 invariant-loop-place l = record {
   few : length l.list.items + l.room ≤ 5;
   items : l.fn.list.items ++ nearest_tries l.ssrc l.seq (reverse l.contexts) 4
-    ≡ l.list.items ++ nearest_tries l.ssrc l.seq (reverse (take l.place l.contexts)) l.room;
+      ≡ l.list.items ++ nearest_tries l.ssrc l.seq (reverse (take l.place l.contexts)) l.room;
 }
