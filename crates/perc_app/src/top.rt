@@ -4,7 +4,7 @@ ghost use Rattle.perc_base.specs.Outside.{HasRisen};
 ghost use Rattle.perc_conference.specs.Replay.{Ends};
 ghost use Rattle.perc_conference.specs.declared.run.ReplayEnd.{ReplayEnd as End};
 ghost use Rattle.perc_app.specs.Status.{end_text, reason_text, status_of, usage_status, usage_text};
-ghost use Rattle.perc_app.specs.Written.{Tells};
+ghost use Rattle.perc_base.specs.Written.{Tells};
 ghost use Rattle.perc_app.specs.Run.{Ended, HasNoFault, IsReplay, IsTrueReport};
 
 use super::write::write_pieces;

@@ -2,9 +2,9 @@
 ghost use Rattle.std.specs.Prelude.{◌≡◌, ◌≤◌, OnErr, OnOk, IfSome, Some, ◌++◌, map};
 ghost use Rattle.std.specs.List.{concat};
 ghost use Rattle.perc_base.specs.Outside.{HasRisen};
-ghost use Rattle.perc_app.specs.Written.{Tells};
+ghost use Rattle.perc_base.specs.Written.{Tells};
 
-use perc_base::{Failed, Sink};
+use perc_base::{Failed, Sink, write_all};
 
 /// Writes the pieces, one after another.
 pub fn write_pieces<E: Sink>(out: &mut E, pieces: &[&[u8]]) -> Result<(), Failed>
@@ -15,21 +15,6 @@ pub fn write_pieces<E: Sink>(out: &mut E, pieces: &[&[u8]]) -> Result<(), Failed
 {
     for piece in pieces {
         write_all(out, piece)?;
-    }
-    Ok(())
-}
-
-/// Writes the whole text.
-fn write_all<E: Sink>(out: &mut E, text: &[u8]) -> Result<(), Failed>
-    ensures told { Tells (E.written out.old) (E.written out.new) text.now (E.fault_count out.old) (E.fault_count out.new) }
-    ensures whole { OnOk result (IfSome (E.written out.old) (λ before. E.written out.new ≡ Some (before ++ text.now))) }
-    ensures failed { OnErr result (HasRisen (E.fault_count out.old) (E.fault_count out.new)) }
-    ensures never_falls { E.fault_count out.old ≤ E.fault_count out.new }
-{
-    let mut rest = text;
-    while !rest.is_empty() {
-        let n = out.write(rest)?;
-        rest = &rest[n..];
     }
     Ok(())
 }

@@ -121,6 +121,7 @@ Step_failed old now failed all left reads undecided = record {
   reads = reads.reads;
   advances = (
     λ d. undecided (subst IsDecided (sym (reads.decided d).1) d),
+    undecided,
     reads.octets,
     elim (bool_cases now.ended) [ inl e ↦ absurd (undecided (inl e)) | inr e ↦ e ],
   );

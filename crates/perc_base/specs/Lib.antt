@@ -4,3 +4,4 @@ pub mod Room
 pub mod Memory
 pub mod Profile
 pub mod Standard
+pub mod Written

@@ -69,8 +69,10 @@ Advances old more (Ok (Line octets)) new =
 Advances old more (Ok Long) new =
     (old.octets ++ more ≡ new.octets) × (length new.octets ≡ longest + 1) × (Contains new.octets 10 → ⊥)
 Advances old more (Ok End) new = (old.octets ++ more ≡ []) × (new.octets ≡ []) × (new.ended ≡ true)
--- after a failed read all stays held
-Advances old more (Err e) new = (IsDecided old → ⊥) × (new.octets ≡ old.octets ++ more) × (new.ended ≡ false)
+-- After a failed read all stays held. What was held didn't decide an answer, and what is held now doesn't: no whole line is
+-- among it, and no more was read than that takes.
+Advances old more (Err e) new =
+    (IsDecided old → ⊥) × (IsDecided new → ⊥) × (new.octets ≡ old.octets ++ more) × (new.ended ≡ false)
 
 -- one call of the reader, from and to what it holds and what its source has left, where that is told
 pub record Step (old : Held) (all : Option (List ℕ)) (answer : Result Found Failed) (new : Held) (left : Option (List ℕ)) : Type 0 where

@@ -6,9 +6,11 @@ mod memory;
 mod outside;
 mod profile;
 mod standard;
+mod writing;
 
 pub use lines::{LineRead, Lines};
 pub use memory::{FaultlessSource, MemSink, MemSource};
 pub use outside::{Failed, Memory, Sink, Source};
 pub use profile::Profile;
 pub use standard::{StdSink, StdSource};
+pub use writing::write_all;

@@ -8,7 +8,7 @@ ghost use Rattle.perc_conference.specs.Steps.{IsTidy, Steps, TurnsNext, PastAll,
 ghost use Rattle.perc_conference.specs.Replay.{Ends};
 
 use super::conference::{Conference, Stop, Told};
-use perc_base::{Failed, LineRead, Lines, Sink, Source};
+use perc_base::{Failed, LineRead, Lines, Sink, Source, write_all};
 use perc_report::Reason;
 use std::alloc::Global;
 
@@ -192,19 +192,4 @@ fn turn_next<S: Source>(
         Ok(LineRead::End) => Ok(None),
         Err(Failed) => Err(Halt::ReadFault),
     }
-}
-
-// Writes the whole text.
-fn write_all<O: Sink>(out: &mut O, text: &[u8]) -> Result<(), Failed>
-    ensures all { OnOk result (IfSome (O.written out.old) (λ before. O.written out.new ≡ Some (before ++ text.now))) }
-    ensures part { OnErr result (IfSome (O.written out.old) (λ before. (part : List ℕ) × (rest : List ℕ) × (text.now ≡ part ++ rest) × (O.written out.new ≡ Some (before ++ part)))) }
-    ensures failed { OnErr result (HasRisen (O.fault_count out.old) (O.fault_count out.new)) }
-    ensures never_falls { O.fault_count out.old ≤ O.fault_count out.new }
-{
-    let mut rest = text;
-    while !rest.is_empty() {
-        let n = out.write(rest)?;
-        rest = &rest[n..];
-    }
-    Ok(())
 }

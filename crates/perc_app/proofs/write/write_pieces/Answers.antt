@@ -13,6 +13,6 @@ returns-in_err-write_all-clause-told g c =
 pub loop-piece-preserved : goal.loop-piece-preserved
 loop-piece-preserved g c =
     let i = c.loop-piece.piece-index in (
-      told_more _ _ _ _ _ _ c.loop-piece.invariant.0 c.in_ok-write_all.ensures.whole (joined_more (λ p. p.now) c.args.pieces.now i _ (omega arith)),
+      told_more _ _ _ _ _ _ c.loop-piece.invariant.0 c.in_ok-write_all.ensures.all (joined_more (λ p. p.now) c.args.pieces.now i _ (omega arith)),
       omega (arith, c.loop-piece.invariant.1, c.write_all.ensures.never_falls),
     )
