@@ -1,0 +1,47 @@
+-- What the code keeps of outer streams, and what it tells of an opened datagram.
+use Rattle.std.specs.Prelude.{◌≡◌, ℕ, ◌+◌, List, [], ◌∷◌, ◌++◌, length, take, drop, ◌==◌, Option, Some, None, find, Result, Ok, Err}
+use Rattle.perc_window.specs.Replay.{Marks, StandsFor as WindowStandsFor}
+use Rattle.perc_srtp.specs.Ends.{Stream}
+use Rattle.perc_rtp.specs.Header.{spelling}
+use Rattle.perc_ohb.specs.Block as ohb
+use Rattle.perc_ekt.specs.Field as ekt
+use Rattle.perc_outer.specs.Streams.{OuterStream, is_of}
+use Rattle.perc_ohb.specs.declared.block.OhbFault.{OhbFault}
+use Rattle.perc_outer.specs.declared.fault.OuterFault.{OuterFault}
+use Rattle.perc_outer.specs.declared.fault.OuterFault.TheVariants.{Ohb}
+use Rattle.perc_outer.specs.Datagram as datagram
+use Rattle.perc_outer.specs.Datagram.{Opened, Reach}
+use Rattle.perc_outer.specs.declared.reaching.Reached.{Reached}
+
+abbrev pub kept_of : List Stream → ℕ → Option Stream
+kept_of kept ssrc = find (λ s. s.ssrc == ssrc) kept
+
+-- One kept stream stands for one with these accepted indices, or neither is there.
+abbrev pub SameStream : Option Stream → Option OuterStream → Type 0
+SameStream None None = Unit {0}
+SameStream None (Some s) = ⊥
+SameStream (Some k) None = ⊥
+SameStream (Some k) (Some s) = WindowStandsFor k.window s.accepted
+
+-- What is kept stands for these streams: as many, and the same under each SSRC.
+pub record StandsFor (kept : List Stream) (streams : List OuterStream) : Type 0 where
+  pub count : length kept ≡ length streams
+  pub each : (ssrc : ℕ) → SameStream (kept_of kept ssrc) (find (is_of ssrc) streams)
+
+-- What is told of an opened datagram, and where its parts stand in the octets: the header, the inner octets and the block; 16
+-- octets that aren't specified, where the outer tag stood; and the field.
+pub record IsTold (told : Reached) (o : Opened) (octets : List ℕ) : Type 0 where
+  pub header : take told.header octets ≡ spelling o.header
+  pub header_len : told.header ≡ length (spelling o.header)
+  pub inner : drop told.header (take told.block octets) ≡ o.inner
+  pub block : told.ohb ≡ o.block
+  pub packet : take told.len octets ≡ spelling o.header ++ o.inner ++ ohb.spelling o.block
+  pub field : told.field ≡ ekt.told_of o.field (told.len + 16)
+  pub field_octets : drop (told.len + 16) octets ≡ ekt.spelling o.field
+  pub index : told.index ≡ o.index
+
+-- What is answered for it, and what stands in the octets then.
+abbrev pub IsReach : Reach → Result Reached OuterFault → List ℕ → Type 0
+IsReach (datagram.Refused fault) result octets = result ≡ Err fault
+IsReach (datagram.Blocked ssrc index fault) result octets = result ≡ Err (Ohb fault)
+IsReach (datagram.Reached o) result octets = (told : Reached) × (result ≡ Ok told) × IsTold told o octets
