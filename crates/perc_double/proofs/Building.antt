@@ -10,10 +10,10 @@ use Rattle.perc_kdf.specs.Derivation.{KeyAndSalt}
 use Rattle.perc_rtp.specs.declared.head.RtpFault.{RtpFault}
 use Rattle.perc_rtp.specs.declared.head.RtpHead.{RtpHead}
 use Rattle.perc_rtp.specs.Header.{Header, IsExtension, IsHeader, IsPacket, bit, extension_octets, first_octet, fixed_octets, head_of, spelling}
-use Rattle.perc_rtp.specs.Fields.{cut}
+use Rattle.perc_rtp.specs.Fields.{cut, with_extension}
 use Rattle.perc_rtp.proofs.HeaderLaws.{IsHeader-cut}
 use Rattle.perc_srtp.specs.Sealed.{sealed_body}
-use Rattle.perc_double.specs.Double.{inner, with_extension}
+use Rattle.perc_double.specs.Double.{inner}
 
 -- ---- the header
 

@@ -41,6 +41,7 @@ pub fn seal_double(
         → MatchResult (tx_index before h.seq)
         (λ at. (result ≡ Ok (len + 33)) × (packet.new ≡ double outer.now at h (spec.inner inner.now index h body) nothing_kept ++ drop (len + 33) packet.old) × StandsFor tx.new.window (at ∷ before))
         (λ fault. (result ≡ Err fault) × (packet.new ≡ packet.old) × (tx.new ≡ tx.old)) }
+    ensures refused { OnErr result ((packet.new ≡ packet.old) × (tx.new ≡ tx.old)) }
     ensures ssrc { tx.new.ssrc ≡ tx.old.ssrc }
 {
     // a refusal leaves the packet as it was
