@@ -4,7 +4,9 @@ use Rattle.std.specs.Prelude.{MatchOption, MatchResult}
 use Rattle.std.proofs.lemmas.Bool.Decides.{nat_tests}
 use Rattle.std.proofs.lemmas.List.{append-nil, drop_at, length-append, length-drop, take_at, take_rest}
 use Rattle.perc_rtp.specs.Header.{Header, IsPacket, spelling}
-use Rattle.perc_srtp.proofs.PacketLaws.{tx_is_nearest, tx_once}
+use Rattle.perc_srtp.proofs.PacketLaws.{forged_opens, length-sealed_body, tx_is_nearest, tx_once}
+use Rattle.perc_kdf.specs.Derivation.{KeyAndSalt}
+use Rattle.perc_srtp.specs.Sealed.{unsealed_body}
 use Rattle.perc_srtp.specs.Streams.{tx_index, tx_place}
 use Rattle.perc_srtp.specs.declared.streams.TxFault.{TxFault}
 use Rattle.perc_srtp.specs.declared.streams.TxFault.TheVariants as tx
@@ -35,6 +37,11 @@ told_relayed (Err (tx.NonceUsed index)) told ok err = err (tx.NonceUsed index) _
 
 pub ok_same : {A E : Type 0} (a b : A) (r : Result A E) → r ≡ Ok a → r ≡ Ok b → a ≡ b
 ok_same a b r p q = cc
+
+-- octets without a tag open to nothing
+pub short_unsealed : (keys : KeyAndSalt) (index : ℕ) (h : Header) (octets : List ℕ) → length octets < 16 → unsealed_body keys index h octets ≡ None
+short_unsealed keys index h octets few =
+    forged_opens keys index h octets (λ body is. absurd (omega (arith, ap length is, length-sealed_body keys index h body)))
 
 -- ---- the index
 
