@@ -10,10 +10,10 @@ use Rattle.perc_kdf.specs.Derivation.{KeyAndSalt}
 use Rattle.perc_rtp.specs.declared.head.RtpFault.{RtpFault}
 use Rattle.perc_rtp.specs.declared.head.RtpHead.{RtpHead}
 use Rattle.perc_rtp.specs.Header.{Header, IsExtension, IsHeader, IsPacket, bit, extension_octets, first_octet, fixed_octets, head_of, spelling}
-use Rattle.perc_rtp.specs.Fields.{cut}
+use Rattle.perc_rtp.specs.Fields.{cut, with_extension}
 use Rattle.perc_rtp.proofs.HeaderLaws.{IsHeader-cut}
 use Rattle.perc_srtp.specs.Sealed.{sealed_body}
-use Rattle.perc_double.specs.Double.{inner, with_extension}
+use Rattle.perc_double.specs.Double.{inner}
 
 -- ---- the header
 
@@ -46,7 +46,8 @@ bit-le true = omega arith
 bit-le false = omega arith
 
 -- A cut header with the bit X set, and an extension behind it.
-extension_behind : (h : Header) (e : ℕ × List ℕ) (octet : ℕ) → IsHeader h → octet ≡ 32 * (first_octet (cut h) / 32) + 16 + first_octet (cut h) % 16 → set (spelling (cut h)) 0 octet ++ extension_octets (Some e) ≡ spelling (with_extension (Some e) h)
+extension_behind : (h : Header) (e : ℕ × List ℕ) (octet : ℕ) → IsHeader h
+    → octet ≡ 32 * (first_octet (cut h) / 32) + 16 + first_octet (cut h) % 16 → set (spelling (cut h)) 0 octet ++ extension_octets (Some e) ≡ spelling (with_extension (Some e) h)
 unfolding spelling
 extension_behind h e octet is octet_is =
     let one = bit-le h.padding in
@@ -112,18 +113,24 @@ front_header h out behind n header n_is out_is = record {
   octets = ap (take n) out_is ∙ take_at (spelling (cut h)) behind n (sym n_is) ∙ sym (append-nil (spelling (cut h)));
 }
 
--- what stands behind a header, sealed over the cut header
-pub text_sealed : (keys : KeyAndSalt) (index : ℕ) (h : Header) (body packet header mid new tag : List ℕ) (n : ℕ) → IsPacket h body packet → n ≡ length (spelling h) → mid ≡ take (length packet - n) (drop n packet)
-    → new ++ tag ≡ sealed_body keys index (cut h) mid → (take n packet ++ (new ++ drop (length packet - n) (drop n packet))) ++ tag ≡ spelling h ++ inner keys index h body
-text_sealed keys index h body packet header mid new tag n is n_is mid_is sealed =
-    let front : take n packet ≡ spelling h = ap (take n) is.octets ∙ take_at (spelling h) body n (sym n_is) in
-    let behind : drop n packet ≡ body = ap (drop n) is.octets ∙ drop_at (spelling h) body n (sym n_is) in
-    let text : mid ≡ body = mid_is ∙ take_rest packet n ∙ behind in
+-- What stands behind the header of a packet was sealed over the cut header.
+pub record IsSealedText (keys : KeyAndSalt) (index : ℕ) (h : Header) (body packet mid new tag : List ℕ) (n : ℕ) : Type 0 where
+  pub reads : IsPacket h body packet
+  pub len : n ≡ length (spelling h)
+  pub text : mid ≡ take (length packet - n) (drop n packet)
+  pub is_sealed : new ++ tag ≡ sealed_body keys index (cut h) mid
+
+pub text_sealed : (keys : KeyAndSalt) (index : ℕ) (h : Header) (body packet mid new tag : List ℕ) (n : ℕ) → IsSealedText keys index h body packet mid new tag n
+    → (take n packet ++ (new ++ drop (length packet - n) (drop n packet))) ++ tag ≡ spelling h ++ inner keys index h body
+text_sealed keys index h body packet mid new tag n is =
+    let front : take n packet ≡ spelling h = ap (take n) is.reads.octets ∙ take_at (spelling h) body n (sym is.len) in
+    let behind : drop n packet ≡ body = ap (drop n) is.reads.octets ∙ drop_at (spelling h) body n (sym is.len) in
+    let text : mid ≡ body = is.text ∙ take_rest packet n ∙ behind in
     let none : drop (length packet - n) (drop n packet) ≡ [] = drop_all (length packet - n) (drop n packet) (omega (arith, length-drop n packet)) in
     rw (front, none)
     (append_assoc (spelling h) (new ++ []) tag
     ∙ ap (λ (xs : List ℕ). spelling h ++ (xs ++ tag)) (append-nil new)
-    ∙ ap (λ (xs : List ℕ). spelling h ++ xs) (sealed ∙ ap (sealed_body keys index (cut h)) text))
+    ∙ ap (λ (xs : List ℕ). spelling h ++ xs) (is.is_sealed ∙ ap (sealed_body keys index (cut h)) text))
 
 -- a text and a tag written over the front of a list
 put_behind : (text end old : List ℕ) (len : ℕ) → length text ≡ len → put_mid len (len + 16 - len) (text ++ drop len old) end ≡ (text ++ end) ++ drop (len + 16) old
@@ -135,22 +142,32 @@ put_behind text end old len long =
     ∙ ap (λ (xs : List ℕ). text ++ (end ++ xs)) after
     ∙ sym (append_assoc text end (drop (len + 16) old))
 
+-- A text of `len` octets and its tag, together s and i, stand at the front of `whole`.
+pub record IsTagged (text end old s i whole : List ℕ) (len : ℕ) : Type 0 where
+  pub text_long : length text ≡ len
+  pub end_long : length end ≡ 16
+  pub parts : text ++ end ≡ s ++ i
+  pub is_put : whole ≡ put_mid len (len + 16 - len) (text ++ drop len old) end
+
 -- and a block behind them
-pub inner_put : (text end old s i b whole : List ℕ) (len n : ℕ) → length text ≡ len → length end ≡ 16 → n ≡ len + 17 → text ++ end ≡ s ++ i → whole ≡ put_mid len (len + 16 - len) (text ++ drop len old) end
+pub inner_put : (text end old s i b whole : List ℕ) (len n : ℕ) → IsTagged text end old s i whole len → n ≡ len + 17
     → (take (len + 16) whole ++ b) ++ drop n whole ≡ (s ++ (i ++ b)) ++ drop (len + 17) old
-inner_put text end old s i b whole len n text_long end_long n_is parts whole_is =
+inner_put text end old s i b whole len n t n_is =
     let w : List ℕ = s ++ i in
-    let is : whole ≡ w ++ drop (len + 16) old = whole_is ∙ put_behind text end old len text_long ∙ ap (λ (xs : List ℕ). xs ++ drop (len + 16) old) parts in
-    let long : length w ≡ len + 16 = sym (ap length parts) ∙ omega (arith, length-append text end) in
+    let end_long = t.end_long in
+    let text_long = t.text_long in
+    let is : whole ≡ w ++ drop (len + 16) old = t.is_put ∙ put_behind text end old len text_long ∙ ap (λ (xs : List ℕ). xs ++ drop (len + 16) old) t.parts in
+    let long : length w ≡ len + 16 = sym (ap length t.parts) ∙ omega (arith, length-append text end) in
     let front : take (len + 16) whole ≡ w = ap (take (len + 16)) is ∙ take_at w (drop (len + 16) old) (len + 16) long in
     let one : drop (len + 16) whole ≡ drop (len + 16) old = ap (drop (len + 16)) is ∙ drop_at w (drop (len + 16) old) (len + 16) long in
-    let place : len + 16 + 1 ≡ n = omega arith in
+    let offset : len + 16 + 1 ≡ n = omega arith in
     let after : drop n whole ≡ drop (len + 17) old =
-    ap (λ (k : ℕ). drop k whole) (sym place) ∙ sym (drop-drop 1 (len + 16) whole) ∙ ap (drop 1) one ∙ drop-drop 1 (len + 16) old ∙ ap (λ (k : ℕ). drop k old) (omega arith) in
+    ap (λ (k : ℕ). drop k whole) (sym offset) ∙ sym (drop-drop 1 (len + 16) whole) ∙ ap (drop 1) one ∙ drop-drop 1 (len + 16) old ∙ ap (λ (k : ℕ). drop k old) (omega arith) in
     rw (front, after) (ap (λ (xs : List ℕ). xs ++ drop (len + 17) old) (append_assoc s i b))
 
 -- a packet in front of a rest of the list that it stands in
-pub front_packet : (h : Header) (rest old new : List ℕ) (len n : ℕ) → IsHeader h → n ≡ len → len ≤ length old → length new ≡ length old → new ≡ (spelling h ++ rest) ++ drop len old → IsPacket h rest (take n new)
+pub front_packet : (h : Header) (rest old new : List ℕ) (len n : ℕ) → IsHeader h → n ≡ len → len ≤ length old → length new ≡ length old
+    → new ≡ (spelling h ++ rest) ++ drop len old → IsPacket h rest (take n new)
 front_packet h rest old new len n header n_is within long new_is =
     let w : List ℕ = spelling h ++ rest in
     let w_long : length w ≡ n = omega (arith, ap length new_is, length-append w (drop len old), length-drop len old) in
@@ -165,16 +182,27 @@ after_tag w old new len n n_is long new_is =
     ∙ drop-drop 16 (len + 17) old
     ∙ ap (λ (k : ℕ). drop k old) (omega arith)
 
--- octets and a block put behind the front of a list
-pub body_put : (octets mid b out behind whole rest new : List ℕ) (at last n : ℕ) → at ≤ length out → last ≡ at + length octets → n ≡ last + length b → mid ≡ octets → whole ≡ take at out ++ (mid ++ behind)
-    → new ≡ (take last whole ++ b) ++ rest → take n new ≡ take at out ++ (octets ++ b)
-body_put octets mid b out behind whole rest new at last n within last_is n_is mid_is whole_is new_is =
+-- Octets were put behind the first `at` of a list, and a block b behind them.
+pub record IsPut (octets mid b out behind whole rest new : List ℕ) (at last n : ℕ) : Type 0 where
+  pub within : at ≤ length out
+  pub last_is : last ≡ at + length octets
+  pub n_is : n ≡ last + length b
+  pub mid_is : mid ≡ octets
+  pub octets_put : whole ≡ take at out ++ (mid ++ behind)
+  pub block_put : new ≡ (take last whole ++ b) ++ rest
+
+pub body_put : (octets mid b out behind whole rest new : List ℕ) (at last n : ℕ) → IsPut octets mid b out behind whole rest new at last n
+    → take n new ≡ take at out ++ (octets ++ b)
+body_put octets mid b out behind whole rest new at last n p =
     let w : List ℕ = take at out ++ octets in
+    let within = p.within in
+    let last_is = p.last_is in
+    let n_is = p.n_is in
     let w_long : length w ≡ last = length-append (take at out) octets ∙ omega (arith, length-take at out) in
     let grouped : whole ≡ w ++ behind =
-    whole_is ∙ ap (λ (xs : List ℕ). take at out ++ (xs ++ behind)) mid_is ∙ sym (append_assoc (take at out) octets behind) in
+    p.octets_put ∙ ap (λ (xs : List ℕ). take at out ++ (xs ++ behind)) p.mid_is ∙ sym (append_assoc (take at out) octets behind) in
     let front : take last whole ≡ w = ap (take last) grouped ∙ take_at w behind last w_long in
     let long : length (w ++ b) ≡ n = length-append w b ∙ omega arith in
-    ap (take n) (new_is ∙ ap (λ (xs : List ℕ). (xs ++ b) ++ rest) front)
+    ap (take n) (p.block_put ∙ ap (λ (xs : List ℕ). (xs ++ b) ++ rest) front)
     ∙ take_at (w ++ b) rest n long
     ∙ append_assoc (take at out) octets b

@@ -1,4 +1,5 @@
 mod Building
 mod Answering
+pub mod RelayLaws
 pub mod CallerLaws
 mod CutHeaders

@@ -1,14 +1,16 @@
 -- The double transform (RFC 8723 section 5): a packet sealed from end to end over its cut header, and then hop by hop, with
 -- the block of originals between.
-use Rattle.std.specs.Prelude.{ℕ, ◌+◌, List, ◌++◌, length, nat_lt, if◌then◌else◌, Option, Some, None, Result, Ok, Err}
+use Rattle.std.specs.Prelude.{◌≡◌, ℕ, ◌+◌, ◌^◌, ◌<◌, false, List, ◌++◌, length, nat_lt, if◌then◌else◌, Option, Some, None, Result, Ok, Err}
 use Rattle.perc_kdf.specs.Derivation.{KeyAndSalt}
-use Rattle.perc_rtp.specs.Header.{Header, spelling}
-use Rattle.perc_rtp.specs.Fields.{cut}
+use Rattle.perc_rtp.specs.Header.{Header, IsPacket, spelling}
+use Rattle.perc_rtp.specs.Fields.{cut, with_extension}
+use Rattle.perc_window.specs.Replay.{has}
 use Rattle.perc_srtp.specs.Sealed.{sealed, sealed_body}
 use Rattle.perc_srtp.specs.Streams.{tx_index}
 use Rattle.perc_srtp.specs.declared.streams.TxFault.{TxFault}
 use Rattle.perc_srtp.specs.declared.streams.TxFault.TheVariants as tx
 use Rattle.perc_ohb.specs.Block as block
+use Rattle.perc_ohb.specs.Block.{IsOhb}
 use Rattle.perc_ohb.specs.Rewriting.{changed, block_after}
 use Rattle.perc_ohb.specs.declared.block.Ohb.{Ohb}
 use Rattle.perc_ohb.specs.declared.rewriting.Change.{Change}
@@ -29,6 +31,11 @@ inner keys index h body = sealed_body keys index (cut h) body
 abbrev pub opened : List ℕ → Ohb → List ℕ
 opened octets o = octets ++ block.spelling o
 
+-- The octets are an opened packet of this header, these inner octets and this block.
+pub record IsOpened (h : Header) (octets : List ℕ) (o : Ohb) (packet : List ℕ) : Type 0 where
+  pub block : IsOhb o
+  pub reads : IsPacket h (opened octets o) packet
+
 -- the packet with this header, these inner octets and this block, sealed hop by hop at an index
 abbrev pub double : KeyAndSalt → ℕ → Header → List ℕ → Ohb → List ℕ
 double outer index h octets o = sealed outer index h (opened octets o)
@@ -40,15 +47,11 @@ changed_extension extension Keep = extension
 changed_extension extension Drop = None
 changed_extension extension (Set profile words) = Some (profile, words.now)
 
--- the header with another extension, or with none
-abbrev pub with_extension : Option (ℕ × List ℕ) → Header → Header
-with_extension extension h = record h { extension = extension }
-
 -- the header after a change, its extension too
 abbrev pub relayed : Header → Change → Header
-relayed h c = record (changed h c) { extension = changed_extension h.extension c.extension }
+relayed h c = with_extension (changed_extension h.extension c.extension) (changed h c)
 
--- how many octets the relayed packet has
+-- how many octets the relayed packet has, sealed
 abbrev pub relayed_length : Header → List ℕ → Ohb → Change → ℕ
 relayed_length h octets o c = length (spelling (relayed h c) ++ opened octets (block_after h o c)) + 16
 
@@ -62,3 +65,9 @@ as_relayed (Err (tx.NonceUsed index)) = Err (relaying.NonceUsed index)
 abbrev pub relay_place : List ℕ → Header → List ℕ → Ohb → Change → Result ℕ RelayFault
 relay_place before h octets o c =
     if nat_lt 1500 (relayed_length h octets o c) then Err relaying.Room else as_relayed (tx_index before (relayed h c).seq)
+
+-- The index that the next packet with this SEQ takes behind these: it is none of them, and below 2^48.
+pub record IsNext (before : List ℕ) (seq index : ℕ) : Type 0 where
+  pub taken : tx_index before seq ≡ Ok index
+  pub once : has before index ≡ false
+  pub in_range : index < 2 ^ 48

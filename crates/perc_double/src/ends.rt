@@ -1,9 +1,9 @@
 // The two ends of the double transform.
-ghost use Rattle.std.specs.Prelude.{◌≡◌, ℕ, ◌+◌, ◌^◌, ◌<◌, ◌≤◌, ◌↔◌, List, [], ◌∷◌, ◌++◌, length, take, drop, None, Ok, Err, IfOk, OnErr, MatchResult};
+ghost use Rattle.std.specs.Prelude.{◌≡◌, ℕ, ◌+◌, ◌^◌, ◌<◌, ◌≤◌, ◌↔◌, List, [], ◌∷◌, ◌++◌, length, take, drop, None, Ok, Err, IfOk, OnErr, IsErr, MatchOption, MatchResult};
 ghost use Rattle.perc_rtp.specs.Header.{Header, IsPacket, spelling};
 ghost use Rattle.perc_rtp.specs.Fields.{IsRtp};
 ghost use Rattle.perc_window.specs.Replay.{StandsFor};
-ghost use Rattle.perc_srtp.specs.Sealed.{sealed_body};
+ghost use Rattle.perc_srtp.specs.Sealed.{BeginsWith, sealed_body, unsealed_body};
 ghost use Rattle.perc_srtp.specs.Streams.{tx_index};
 ghost use Rattle.perc_double.specs.Double.{double, nothing_kept, opened};
 ghost use Rattle.perc_double.specs.Double as spec;
@@ -39,8 +39,11 @@ pub fn seal_double(
     requires reads { (h : Header) × (body : List ℕ) × IsPacket h body (take len packet.old) × (h.ssrc ≡ tx.old.ssrc) }
     ensures answer { (before : List ℕ) (h : Header) (body : List ℕ) → StandsFor tx.old.window before → IsPacket h body (take len packet.old)
         → MatchResult (tx_index before h.seq)
-        (λ at. (result ≡ Ok (len + 33)) × (packet.new ≡ double outer.now at h (spec.inner inner.now index h body) nothing_kept ++ drop (len + 33) packet.old) × StandsFor tx.new.window (at ∷ before))
+        (λ at. (result ≡ Ok (len + 33))
+        × (packet.new ≡ double outer.now at h (spec.inner inner.now index h body) nothing_kept ++ drop (len + 33) packet.old)
+        × StandsFor tx.new.window (at ∷ before))
         (λ fault. (result ≡ Err fault) × (packet.new ≡ packet.old) × (tx.new ≡ tx.old)) }
+    ensures refused { OnErr result ((packet.new ≡ packet.old) × (tx.new ≡ tx.old)) }
     ensures ssrc { tx.new.ssrc ≡ tx.old.ssrc }
 {
     // a refusal leaves the packet as it was
@@ -60,6 +63,8 @@ fn seal_inner(inner: &Keys, index: u64, packet: &mut [u8; 1500], len: usize) -> 
     ensures len { result ≡ len + 17 }
     ensures sealed { (h : Header) (body : List ℕ) → IsPacket h body (take len packet.old)
         → packet.new ≡ (spelling h ++ opened (spec.inner inner.now index h body) nothing_kept) ++ drop (len + 17) packet.old }
+    ensures reads { (h : Header) (body : List ℕ) → IsPacket h body (take len packet.old)
+        → IsPacket h (opened (spec.inner inner.now index h body) nothing_kept) (take result packet.new) }
 {
     let tag = seal_text(inner, index, &mut packet[..len]);
     let end = len + TAG_LEN;
@@ -99,11 +104,14 @@ pub fn inner_unseal(
     requires few { length body.old ≤ 65536 }
     requires reads { (h : Header) × IsPacket h [] header.now × (h.extension ≡ None) }
     ensures short { (result ≡ Err InnerFault.Short) ↔ (length body.old < 16) }
+    ensures answer { (h : Header) → IsPacket h [] header.now → MatchOption (unsealed_body inner.now index h body.old)
+        (IsErr result × (body.new ≡ body.old))
+        (λ plain. (result ≡ Ok (length plain)) × BeginsWith plain body.new) }
     ensures opened { (h : Header) → IsPacket h [] header.now → IfOk result (λ n. (n + 16 ≡ length body.old) × (body.old ≡ sealed_body inner.now index h (take n body.new))) }
     ensures tag { (h : Header) → IsPacket h [] header.now → result ≡ Err InnerFault.Tag → (plain : List ℕ) → body.old ≡ sealed_body inner.now index h plain → ⊥ }
     ensures refused { OnErr result (body.new ≡ body.old) }
 {
-    let Some(len) = body.len().checked_sub(TAG_LEN) else {
+    let Some(len) = tag_start(body) else {
         return Err(InnerFault::Short);
     };
     let tag = tag_in(&body[len..]);
@@ -111,4 +119,11 @@ pub fn inner_unseal(
         Ok(()) => Ok(len),
         Err(TagMismatch) => Err(InnerFault::Tag),
     }
+}
+
+// Where the tag begins at the end of octets. None where they are too few for one.
+fn tag_start(octets: &[u8]) -> Option<usize>
+    ensures { MatchOption result (length octets.now < 16) (λ n. n + 16 ≡ length octets.now) }
+{
+    octets.len().checked_sub(TAG_LEN)
 }

@@ -1,10 +1,10 @@
 // The parts of double packets.
 ghost use Rattle.std.specs.Prelude.{◌≡◌, ℕ, ◌+◌, ◌*◌, ◌/◌, ◌%◌, ◌<◌, ◌≤◌, List, [], ◌++◌, length, take, drop, Some, IfSome, MatchOption};
 ghost use Rattle.perc_rtp.specs.Header.{Header, IsExtension, IsPacket, extension_octets, spelling};
-ghost use Rattle.perc_rtp.specs.Fields.{IsRtp, cut};
+ghost use Rattle.perc_rtp.specs.Fields.{IsRtp, cut, with_extension};
 ghost use Rattle.perc_ohb.specs.Block as block;
 ghost use Rattle.perc_ohb.specs.Rewriting.{IsExtChange};
-ghost use Rattle.perc_double.specs.Double.{changed_extension, with_extension};
+ghost use Rattle.perc_double.specs.Double.{changed_extension};
 
 use byteorder::{BigEndian, ByteOrder};
 use perc_ohb::{ExtChange, Ohb};
@@ -47,12 +47,22 @@ pub(crate) fn put_body(octets: &[u8], ohb: &Ohb, out: &mut [u8; 1500], at: usize
     ensures { MatchOption result (1500 < at + length octets.now + length (block.spelling ohb.now) + 16)
         (λ n. (n + 16 ≤ 1500) × (n ≡ at + length octets.now + length (block.spelling ohb.now)) × (take n out.new ≡ take at out.old ++ (octets.now ++ block.spelling ohb.now))) }
 {
-    let last = at + octets.len();
-    if last + block_len(ohb) + TAG_LEN > out.len() {
+    if sealed_len(octets, ohb, at) > out.len() {
         return None;
     }
+    let last = at + octets.len();
     out[at..last].copy_from_slice(octets);
     Some(put_block(ohb, out, last))
+}
+
+// How many octets there are once octets and a block stand behind the first `at` octets, and a tag behind them.
+pub(crate) fn sealed_len(octets: &[u8], ohb: &Ohb, at: usize) -> usize
+    requires pt { IfSome ohb.now.pt (λ pt. pt < 128) }
+    requires at { at ≤ 1500 }
+    requires few { length octets.now ≤ 1500 }
+    ensures { result ≡ at + length octets.now + length (block.spelling ohb.now) + 16 }
+{
+    at + octets.len() + block_len(ohb) + TAG_LEN
 }
 
 // How many octets a block has.

@@ -1,9 +1,10 @@
 // Double packets that were made outside, packets relayed and opened, and what is refused.
 ghost use Rattle.std.specs.Prelude.{◌<◌, ◌≤◌, length, IfSome, IsTrue};
+ghost use Rattle.perc_rtp.specs.Header.{IsExtension};
 ghost use Rattle.perc_rtp.specs.Media.{is_payload_type};
 ghost use Rattle.perc_ohb.specs.Rewriting.{IsExtChange};
 
-use crate::{InnerFault, RelayFault, inner_unseal, relay, seal_double};
+use crate::{InnerFault, RelayFault, inner_unseal, relay, relayed_len, seal_double};
 use perc_kdf::{Kind, Master};
 use perc_ohb::{Change, ExtChange, Ohb, restore};
 use perc_rtp::RtpHead;
@@ -130,32 +131,18 @@ const RELAYS: [(
     ),
 ];
 
-fn digit(character: u8) -> u8
-    ensures { result < 16 }
-{
-    match character {
-        b'0'..=b'9' => character - b'0',
-        b'a'..=b'f' => character - b'a' + 10,
-        _ => 0,
-    }
-}
-
 // The octets that a text in hexadecimal digits spells, and zeros behind them.
-fn spelled(hex: &str) -> [u8; 1500] {
-    let hex = hex.as_bytes();
+fn spelled(digits: &str) -> [u8; 1500] {
     let mut octets = [0; 1500];
-    for i in 0..1500 {
-        if 2 * i + 1 < hex.len() {
-            octets[i] = 16 * digit(hex[2 * i]) + digit(hex[2 * i + 1]);
-        }
-    }
+    let _ = hex::decode_to_slice(digits, &mut octets[..size(digits)]);
     octets
 }
 
-fn size(hex: &str) -> usize
+// How many octets it spells, at most 1500.
+fn size(digits: &str) -> usize
     ensures { result ≤ 1500 }
 {
-    (hex.len() / 2).min(1500)
+    (digits.len() / 2).min(1500)
 }
 
 // The keys of a master whose key and salt have the same octets throughout.
@@ -219,9 +206,16 @@ fn has_extension(extension: ExtChange<'_>) -> bool
     ensures { IsTrue result → IsExtChange extension.entry }
 {
     match extension {
-        ExtChange::Set(_, words) => words.len() % 4 == 0 && words.len() <= 120,
+        ExtChange::Set(profile, words) => is_short_extension(profile, words),
         _ => true,
     }
+}
+
+// Whether there are at most 30 whole words. A profile of 16 bits and octets of 8 make an extension of them.
+fn is_short_extension(profile: u16, words: &[u8]) -> bool
+    ensures { IsTrue result → IsExtension (profile, words.now) × (length words.now ≤ 120) }
+{
+    words.len() % 4 == 0 && words.len() <= 120
 }
 
 fn may_be_set(pt: Option<u8>) -> bool
@@ -233,7 +227,7 @@ fn may_be_set(pt: Option<u8>) -> bool
     }
 }
 
-// Relays an opened packet, where it is one of the stream.
+// Relays an opened packet, where it is one of the stream, and has the length then that was told before.
 fn relay_next(
     tx: &mut TxStream,
     outer: &Keys,
@@ -254,7 +248,14 @@ fn relay_next(
     if head.ssrc != tx.ssrc() {
         return None;
     }
-    Some(relay(tx, outer, packet, len, change))
+    let told = relayed_len(opened, change);
+    let result = relay(tx, outer, packet, len, change);
+    let fits = match result {
+        Ok(len) => len == told,
+        Err(RelayFault::Room) => told > 1500,
+        Err(_) => told <= 1500,
+    };
+    fits.then_some(result)
 }
 
 // Seals a plain packet as the first of a stream, and answers its length.
@@ -425,11 +426,11 @@ fn front_of(packet: &[u8; 1500]) -> [u8; 32] {
 #[test]
 fn refusals(rt: HostRuntime) {
     let mut packet = opened_plain().expect(&rt, "it is sealed and opened");
-    for place in [1, 3, 4, 12, 14, 15, 30] {
+    for offset in [1, 3, 4, 12, 14, 15, 30] {
         let mut altered = packet;
-        altered[place] ^= 1;
+        altered[offset] ^= 1;
         let fault = Some(Err(InnerFault::Tag));
-        assert_eq!(rt; open_inner(1000, &mut altered), fault, "{place}");
+        assert_eq!(rt; open_inner(1000, &mut altered), fault, "{offset}");
     }
     let mut short = [0; 28];
     short[..12].copy_from_slice(&packet[..12]);

@@ -1,7 +1,7 @@
 -- What a distributor may change in a header, and how the original is put back (RFC 8723 sections 4 and 5.2).
-use Rattle.std.specs.Prelude.{◌≡◌, ℕ, ◌+◌, ◌%◌, ◌^◌, ◌≤◌, Bool, true, false, ◌==◌, if◌then◌else◌, List, [], ◌∷◌, length, Option, Some, None, IfSome, IsTrue}
+use Rattle.std.specs.Prelude.{ℕ, ◌+◌, ◌%◌, ◌^◌, ◌≤◌, Bool, true, false, ◌==◌, if◌then◌else◌, List, [], ◌∷◌, length, Option, Some, None, IfSome, IsTrue}
 use Rattle.std.specs.Option.{unwrap_or}
-use Rattle.perc_rtp.specs.Header.{Header}
+use Rattle.perc_rtp.specs.Header.{Header, IsExtension}
 use Rattle.perc_rtp.specs.Fields.{cut}
 use Rattle.perc_rtp.specs.Media.{is_payload_type}
 use Rattle.perc_ohb.specs.declared.block.Ohb.{Ohb}
@@ -9,11 +9,11 @@ use Rattle.perc_ohb.specs.declared.rewriting.Change.{Change}
 use Rattle.perc_ohb.specs.declared.rewriting.ExtChange.{ExtChange}
 use Rattle.perc_ohb.specs.declared.rewriting.ExtChange.TheVariants.{Keep, Drop, Set}
 
--- an extension to be set has whole words of 4 octets, at most 30 of them
+-- an extension to be set is one, of at most 30 words of 4 octets
 abbrev pub IsExtChange : ExtChange → Type 0
 IsExtChange Keep = Unit {0}
 IsExtChange Drop = Unit {0}
-IsExtChange (Set profile words) = (length words.now % 4 ≡ 0) × (length words.now ≤ 120)
+IsExtChange (Set profile words) = IsExtension (profile, words.now) × (length words.now ≤ 120)
 
 -- a payload type to be set is one of RTP's
 pub record IsChange (c : Change) : Type 0 where

@@ -28,6 +28,10 @@ one_packet h g r s packet p q =
     let second : drop n packet ≡ s = ap (drop n) q.octets ∙ drop_at (spelling g) s n (ap (λ (k : Header). length (spelling k)) (sym same)) in
     (same, sym first ∙ second)
 
+-- a header lies within its packet
+pub header_within : (h : Header) (rest packet : List ℕ) → IsPacket h rest packet → length (spelling h) ≤ length packet
+header_within h rest packet is = omega (arith, ap length is.octets, length-append (spelling h) rest)
+
 byte-octet : (k n : ℕ) → byte_at k n < 256
 byte-octet zero n = omega arith
 byte-octet (suc k) n = omega arith

@@ -1,5 +1,5 @@
 mod Writing
-mod Octets
+pub mod Octets
 mod Reading
 mod Changing
 pub mod HeaderLaws

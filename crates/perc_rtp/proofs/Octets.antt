@@ -4,7 +4,7 @@ use Rattle.std.specs.List.{flat_map, All}
 use Rattle.std.proofs.lemmas.Bool.{cases_lt}
 use Rattle.std.proofs.lemmas.Nat.{be_bytes_2, be_bytes_4}
 use Rattle.std.proofs.lemmas.List.{drop-drop, get_or-drop, get_or-take, get_or_past, length-take, length-drop, take-append-drop}
-use Rattle.std.proofs.lemmas.List.Elements.{All-cons, All-nil, All-head, All-tail, All-get_or}
+use Rattle.std.proofs.lemmas.List.Elements.{All-cons, All-nil, All-head, All-tail, All-from_get_or, All-get_or}
 use Rattle.byteorder.specs.Endian.{big_bytes, big_number}
 use Rattle.byteorder.specs.Numbers.{big_number-reads_back}
 use Rattle.perc_rtp.specs.Header.{IsOctet}
@@ -20,6 +20,9 @@ AreOctets-all xs h i =
       | inl lt ↦ All-get_or IsOctet xs i 0 lt h
       | inr past ↦ rw (get_or_past xs i 0 past) (omega arith)
     ]
+
+pub all_octets : (xs : List ℕ) → AreOctets xs → All IsOctet xs
+all_octets xs h = All-from_get_or IsOctet xs 0 (λ i lt. h i)
 
 pub AreOctets-drop : (n : ℕ) (xs : List ℕ) → AreOctets xs → AreOctets (drop n xs)
 AreOctets-drop n xs h i = rw get_or-drop (h (n + i))

@@ -11,6 +11,6 @@ seal_behind-requires-clause-reads c =
 pub returns-clause-sealed : goal.returns-clause-sealed
 returns-clause-sealed c = λ h body is.
     let header = front_header h c.cut_header-cut.new.out _ c.cut_header-cut.result is.header (c.cut_header-cut.ensures.len h body is) (c.cut_header-cut.ensures.cut h body is) in
-    text_sealed c.args.inner.now c.args.index h body c.args.packet.now c.cut_header-cut.new.out _ c.seal_behind.new.body c.seal_behind.result c.unwrap-head.result.len is
-    (head_len h c.read.result c.unwrap-head.result (c.read.ensures.only h body is) c.unwrap-head.ensures) refl
-    (c.seal_behind.ensures.sealed (cut h) header)
+    let len = head_len h c.read.result c.unwrap-head.result (c.read.ensures.only h body is) c.unwrap-head.ensures in
+    text_sealed c.args.inner.now c.args.index h body c.args.packet.now _ c.seal_behind.new.body c.seal_behind.result c.unwrap-head.result.len
+    (record { reads = is; len = len; text = refl; is_sealed = c.seal_behind.ensures.sealed (cut h) header })

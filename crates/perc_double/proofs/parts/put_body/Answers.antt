@@ -7,5 +7,13 @@ pub returns : goal.returns
 returns c = (
   omega arith,
   omega arith,
-  body_put c.args.octets.now c.copy_from_slice.new.self (block.spelling c.args.ohb.now) c.args.out.now _ _ _ c.put_block.new.packet c.args.at _ c.put_block.result (omega arith) refl c.put_block.ensures.end c.copy_from_slice.ensures.after refl c.put_block.ensures.written,
+  body_put c.args.octets.now _ (block.spelling c.args.ohb.now) c.args.out.now _ _ _ c.put_block.new.packet c.args.at _ c.put_block.result
+      (record {
+        within = omega arith;
+        last_is = refl;
+        n_is = c.put_block.ensures.end;
+        mid_is = c.copy_from_slice.ensures.after;
+        octets_put = refl;
+        block_put = c.put_block.ensures.written;
+      }),
 )

@@ -1,0 +1,13 @@
+use Rattle.std.proofs.Common.{◌∙◌, arith}
+use Rattle.std.proofs.lemmas.List.{length-take}
+use Rattle.perc_double.proofs.Answering.{parts_length}
+use Rattle.perc_double.proofs.relaying.relayed_len.Goals as goal
+
+pub returns : goal.returns
+returns c = λ h octets o is.
+    let parts = c.change_parts-parts.ensures in
+    let end = c.change_parts-parts.result.header_len in
+    c.sealed_len.ensures
+    ∙ parts_length h octets o c.args.change.now _ _ _ end
+    (record { header = parts.header h octets o is; inner = parts.inner h octets o is; block_is = parts.block h octets o is })
+    (omega (arith, length-take end c.change_parts-parts.new.out, parts.within))
