@@ -5,7 +5,7 @@ use Rattle.std.specs.Map.{lookup}
 use Rattle.std.proofs.Common.{◌≡◌, Bool, List, true, false, cond, ◌||◌, ◌⊎◌, ⊎_elim, refl, sym, ap, ◌∙◌, subst}
 use Rattle.std.proofs.lemmas.Bool.{cases_Bool, cond-true, cond-false}
 use Rattle.std.specs.Prelude.{Option, Some, None, OnErr, OnOk, Result, Ok, Err}
-use Rattle.std.specs.Result.{is_err, is_ok}
+use Rattle.std.specs.Result.{is_err}
 use Rattle.perc_kdf.specs.Derivation.{KeyAndSalt}
 use Rattle.perc_kdf.specs.Order.{pair_cmp, same_pair}
 use Rattle.perc_kdf.proofs.OrderLaws.{pair_cmp_ties, same_pair-Decides}
@@ -17,15 +17,6 @@ on_ok (Err e) is fact = absurd cc
 pub on_err : {T E P : Type 0} (r : Result T E) → is_err r ≡ true → OnErr r P → P
 on_err (Ok x) is fact = absurd cc
 on_err (Err e) is fact = fact
-
--- what a `push` leaves
-pub pushed : {T E A : Type 0} (r : Result T E) (items more same : List A) → is_err r ≡ false → items ≡ cond (is_ok r) more same → items ≡ more
-pushed (Ok x) items more same is fact = fact
-pushed (Err e) items more same is fact = absurd cc
-
-pub not_pushed : {T E A : Type 0} (r : Result T E) (items more same : List A) → is_err r ≡ true → items ≡ cond (is_ok r) more same → items ≡ same
-not_pushed (Ok x) items more same is fact = absurd cc
-not_pushed (Err e) items more same is fact = fact
 
 abbrev pub Pairs : Type 0 → Type 0
 Pairs X = KeyAndSalt → Option X

@@ -158,43 +158,42 @@ more_given es e f g absent given put q =
 
 -- ---- what is kept
 
-pub kept_same : (set : List Entry) (ops : List Op) (count : ℕ) (m n : BTreeMap KeyAndSalt Gift) → IsKept set ops count m
-    → ((q : KeyAndSalt) → tree.get pair_cmp n q ≡ tree.get pair_cmp m q) → IsKept set ops count n
-kept_same set ops count m n kept same = record {
-  history = kept.history;
-  held = kept.held;
-  counted = kept.counted;
-  few = kept.few;
-  given = λ q. same q ∙ kept.given q;
+pub kept_same : (set : List Entry) (ops more : List Op) (count : ℕ) (m n : BTreeMap KeyAndSalt Gift) → IsKept set ops count m
+    → more ≡ ops → ((q : KeyAndSalt) → tree.get pair_cmp n q ≡ tree.get pair_cmp m q) → IsKept set more count n
+kept_same set ops more count m n kept more_is same = record {
+  history = subst IsHistory (sym more_is) kept.history;
+  held = kept.held ∙ ap fold_ops (sym more_is);
+  counted = kept.counted ∙ ap (λ (os : List Op). length (adds os)) (sym more_is);
+  few = rw more_is kept.few;
+  given = λ q. same q ∙ kept.given q ∙ ap (λ (os : List Op). given_by (adds os) q) (sym more_is);
 }
 
-pub kept_removed : (set : List Entry) (ops : List Op) (count : ℕ) (m : BTreeMap KeyAndSalt Gift) (association : List ℕ) → IsKept set ops count m
-    → IsKept (absorbed set (Remove association)) (ops ++ Remove association ∷ []) count m
-kept_removed set ops count m association kept =
-    let added : adds (ops ++ Remove association ∷ []) ≡ adds ops = adds-append ops (Remove association ∷ []) ∙ append-nil (adds ops) in
+pub kept_removed : (set left : List Entry) (ops more : List Op) (count : ℕ) (m : BTreeMap KeyAndSalt Gift) (association : List ℕ) → IsKept set ops count m
+    → left ≡ absorbed set (Remove association) → more ≡ ops ++ Remove association ∷ [] → IsKept left more count m
+kept_removed set left ops more count m association kept left_is more_is =
+    let added : adds more ≡ adds ops = ap adds more_is ∙ adds-append ops (Remove association ∷ []) ∙ append-nil (adds ops) in
     let long = ap (λ (es : List Entry). length es) added in
     record {
-      history = IsHistory-remove ops association kept.history;
-      held = ap (λ (es : List Entry). absorbed es (Remove association)) kept.held ∙ sym (set_after-append [] ops (Remove association ∷ []));
+      history = subst IsHistory (sym more_is) (IsHistory-remove ops association kept.history);
+      held = left_is ∙ ap (λ (es : List Entry). absorbed es (Remove association)) kept.held ∙ sym (set_after-append [] ops (Remove association ∷ [])) ∙ ap fold_ops (sym more_is);
       counted = kept.counted ∙ sym long;
       few = rw long kept.few;
       given = λ q. kept.given q ∙ ap (λ (es : List Entry). given_by es q) (sym added);
     }
 
-pub kept_added : (set : List Entry) (ops : List Op) (count : ℕ) (m n : BTreeMap KeyAndSalt Gift) (association : List ℕ) (client server : KeyAndSalt) → IsKept set ops count m
+pub kept_added : (set left : List Entry) (ops more : List Op) (count : ℕ) (m n : BTreeMap KeyAndSalt Gift) (association : List ℕ) (client server : KeyAndSalt) → IsKept set ops count m
     → add_answer ops association client server ≡ Ok New
-    → let e = new_entry ops association client server in ((q : KeyAndSalt) → tree.get pair_cmp n q ≡ cond (gives q e) (Some (gift_of e)) (tree.get pair_cmp m q))
-    → IsKept (absorbed set (Add e)) (ops ++ Add e ∷ []) (count + 1) n
-kept_added set ops count m n association client server kept answer put =
-    let e : Entry = new_entry ops association client server in
+    → (e : Entry) → e ≡ new_entry ops association client server → ((q : KeyAndSalt) → tree.get pair_cmp n q ≡ cond (gives q e) (Some (gift_of e)) (tree.get pair_cmp m q))
+    → left ≡ absorbed set (Add e) → more ≡ ops ++ Add e ∷ [] → IsKept left more (count + 1) n
+kept_added set left ops more count m n association client server kept answer e e_is put left_is more_is =
     let accepted = IsAccepted-from_answer ops association client server answer in
-    let added : adds (ops ++ Add e ∷ []) ≡ adds ops ++ e ∷ [] = adds-append ops (Add e ∷ []) in
-    let long : length (adds (ops ++ Add e ∷ [])) ≡ length (adds ops) + 1 = ap (λ (es : List Entry). length es) added ∙ length-append (adds ops) (e ∷ []) in
+    let added : adds more ≡ adds ops ++ e ∷ [] = ap adds more_is ∙ adds-append ops (Add e ∷ []) in
+    let long : length (adds more) ≡ length (adds ops) + 1 = ap (λ (es : List Entry). length es) added ∙ length-append (adds ops) (e ∷ []) in
+    let absent = subst (AreNotGiven (tree.get pair_cmp m)) (sym e_is) (AreNotGiven-accepted ops association client server m kept.given answer) in
     record {
-      history = IsHistory-add ops association client server kept.history accepted;
-      held = ap (λ (es : List Entry). absorbed es (Add e)) kept.held ∙ sym (set_after-append [] ops (Add e ∷ []));
+      history = subst IsHistory (sym (more_is ∙ ap (λ (d : Entry). ops ++ Add d ∷ []) e_is)) (IsHistory-add ops association client server kept.history accepted);
+      held = left_is ∙ ap (λ (es : List Entry). absorbed es (Add e)) kept.held ∙ sym (set_after-append [] ops (Add e ∷ [])) ∙ ap fold_ops (sym more_is);
       counted = omega (arith, long, kept.counted);
       few = omega (arith, long, accepted.few);
-      given = λ q. more_given (adds ops) e (tree.get pair_cmp m) (tree.get pair_cmp n) (AreNotGiven-accepted ops association client server m kept.given answer) kept.given put q
-          ∙ ap (λ (es : List Entry). given_by es q) (sym added);
+      given = λ q. more_given (adds ops) e (tree.get pair_cmp m) (tree.get pair_cmp n) absent kept.given put q ∙ ap (λ (es : List Entry). given_by es q) (sym added);
     }

@@ -26,7 +26,7 @@ const MOST_ADDS: u32 = 65536;
 pub struct Publisher {
     ops: Vec<Op>,
     /// What they leave.
-    set: KeySet,
+    set: Box<KeySet>,
     /// How many of them are adds.
     added: u32,
     /// Each pair of those adds, so that whether a pair was given costs one look-up.
@@ -42,7 +42,7 @@ impl Model for Publisher {
 
     ghost view = { λ p. p.ops.items };
 
-    ghost invariant = { λ p. IsKept p.set p.ops.items p.added p.given };
+    ghost invariant = { λ p. IsKept p.set.value p.ops.items p.added p.given };
 }
 
 impl Publisher {
@@ -52,7 +52,7 @@ impl Publisher {
     {
         Ok(Publisher {
             ops: Vec::new(alloc),
-            set: KeySet::empty(),
+            set: Box::new(alloc, KeySet::empty()).map_err(|_| Memory)?,
             added: 0,
             given: BTreeMap::new(alloc),
         })
@@ -63,7 +63,7 @@ impl Publisher {
         ensures value { result.now ≡ fold_ops self.now }
         ensures history { IsHistory self.now }
     {
-        &self.set
+        &*self.set
     }
 
     /// The accepted adds and removals, the oldest first.
@@ -91,7 +91,6 @@ impl Publisher {
         }
     }
 
-    #[tactic(auto, using(crate::proofs::KeptLaws::kept_removed))]
     /// Takes an association out. It is refused where it isn't held, and where memory is out; then all is as it was.
     pub fn remove(&mut self, association: &[u8; 16]) -> Result<(), RemoveFault>
         ensures unknown { (result ≡ Err RemoveFault.Unknown) ↔ (holds (fold_ops self.old) association.now ≡ false) }
@@ -102,7 +101,7 @@ impl Publisher {
             return Err(RemoveFault::Unknown);
         }
         let op = Op::Remove(*association);
-        if self.ops.push(op).is_err() {
+        if append(&mut self.ops, op).is_err() {
             return Err(RemoveFault::Memory);
         }
         self.set.absorb(&op);
@@ -180,7 +179,7 @@ impl Publisher {
     {
         let entry = self.new_entry(keys);
         give(&mut self.given, &entry)?;
-        if self.ops.push(Op::Add(entry)).is_err() {
+        if append(&mut self.ops, Op::Add(entry)).is_err() {
             take_back(&mut self.given, &entry);
             return Err(Memory);
         }
@@ -188,4 +187,11 @@ impl Publisher {
         self.added += 1;
         Ok(())
     }
+}
+
+fn append(ops: &mut Vec<Op>, op: Op) -> Result<(), Memory>
+    ensures appended { OnOk result (ops.new.items ≡ ops.old.items ++ op ∷ []) }
+    ensures refused { OnErr result (ops.new.items ≡ ops.old.items) }
+{
+    ops.push(op).map_err(|_| Memory)
 }
