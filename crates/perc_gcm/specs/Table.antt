@@ -15,3 +15,7 @@ multiples h = map (λ nibble. product (polynomial nibble) h) (range_with_len 0 1
 pub record Table : Type 0 where
   pub h : ℕ
   pub entries : List ℕ
+
+-- the square of an element
+abbrev pub square : ℕ → ℕ
+square h = product h h

@@ -2,7 +2,7 @@
 ghost use Rattle.std.specs.Prelude.{◌≡◌, ℕ, ◌*◌, ◌^◌, ◌<◌, slice_index};
 ghost use Rattle.perc_gcm.specs.Field.{add, product, shifted};
 ghost use Rattle.perc_gcm.specs.Gcm.{element};
-ghost use Rattle.perc_gcm.specs.Table.{polynomial};
+ghost use Rattle.perc_gcm.specs.Table.{polynomial, square};
 
 use crate::field::{block_of, times_x, times_x4, times_x8};
 use std::marker::Model;
@@ -113,7 +113,7 @@ impl OctetTable {
 pub(crate) struct PairTable {
     pub(crate) once: OctetTable,
     twice: OctetTable,
-    ghost is_square: { twice.whole.h ≡ product once.whole.h once.whole.h },
+    ghost is_square: { twice.whole.h ≡ square once.whole.h },
 }
 
 impl PairTable {
@@ -128,7 +128,7 @@ impl PairTable {
     // The product of one element and the square, and that of another and the element, added. A block that comes one
     // before another is multiplied once more than that one.
     pub(crate) fn products(&self, first: u128, second: u128) -> u128
-        ensures { result ≡ add (product first (product self.now.once.whole.h self.now.once.whole.h)) (product second self.now.once.whole.h) }
+        ensures { result ≡ add (product first (square self.now.once.whole.h)) (product second self.now.once.whole.h) }
     {
         let mut more = first;
         let mut rest = second;
