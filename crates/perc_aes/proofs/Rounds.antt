@@ -8,7 +8,7 @@ use Rattle.perc_aes.specs.Cipher.{IsBlock, IsKey, add_round_key, add_words, aes,
 use Rattle.perc_aes.specs.Inverse.{inverse_mix_columns, inverse_shift_rows, inverse_sub_bytes}
 use Rattle.perc_aes.specs.KeySchedule.{IsSchedule}
 use Rattle.perc_aes.specs.Octets.{AreOctets}
-use Rattle.perc_aes.specs.Words.{octets_of, octets_of_word, octets_of_words}
+use Rattle.perc_aes.specs.Words.{octets_of, octets_of_word, octets_of_words, state_at}
 use Rattle.perc_aes.specs.declared.state.State.{State}
 use Rattle.perc_aes.proofs.Octets.{below_256}
 use Rattle.perc_aes.proofs.SBox.{sub_octet_in_range}
@@ -168,7 +168,7 @@ round_key_fits words nk r is size in_rounds =
     omega (arith, key_of_words words nk is.size size)
 
 -- a round key, as the words of a schedule have it
-pub round_key_is : (words : List ℕ) (nk r : ℕ) → IsSchedule words nk → length words ≡ 60 → r ≤ rounds (octets_of_words (take nk words)) → octets_of (record { a = get_or words (4 * r) 0; b = get_or words (4 * r + 1) 0; c = get_or words (4 * r + 2) 0; d = get_or words (4 * r + 3) 0 }) ≡ round_key (octets_of_words (take nk words)) r
+pub round_key_is : (words : List ℕ) (nk r : ℕ) → IsSchedule words nk → length words ≡ 60 → r ≤ rounds (octets_of_words (take nk words)) → octets_of (state_at words (4 * r)) ≡ round_key (octets_of_words (take nk words)) r
 unfolding round_key octets_of
 round_key_is words nk r is size in_rounds =
     let facts = key_size (4 * nk) is.size in
@@ -270,10 +270,10 @@ leads_last key c s r size r_is s_is = λ b after.
     sym (aes_last key b (state_after key b (r - 1)) r r_is refl)
     ∙ rw (after, s_is) (add_twice c (round_key key r) size)
 
-pub leads_back : (key c s t : List ℕ) (r : ℕ) → IsBlock s → LeadsTo key (suc r) s c → mix_columns t ≡ add_round_key (inverse_sub_bytes (inverse_shift_rows s)) (round_key key (suc r)) → LeadsTo key r t c
+pub leads_back : (key c s t w : List ℕ) (r n : ℕ) → IsBlock s → LeadsTo key (suc r) s c → mix_columns t ≡ add_round_key (inverse_sub_bytes (inverse_shift_rows s)) w → w ≡ round_key key n → n ≡ suc r → LeadsTo key r t c
 unfolding state_after
-leads_back key c s t r block leads t_is = λ b after.
-    leads b (rw (after, t_is, add_twice (inverse_sub_bytes (inverse_shift_rows s)) (round_key key (suc r)) (IsBlock-undone s block).size)
+leads_back key c s t w r n block leads t_is w_is n_is = λ b after.
+    leads b (rw (after, t_is, w_is, n_is, add_twice (inverse_sub_bytes (inverse_shift_rows s)) (round_key key (suc r)) (IsBlock-undone s block).size)
     (shift_sub_undone s block))
 
 pub leads_first : (key c s b : List ℕ) → IsBlock s → LeadsTo key 0 s c → b ≡ add_round_key (inverse_sub_bytes (inverse_shift_rows s)) (round_key key 0) → aes key b ≡ c

@@ -1,5 +1,5 @@
 -- The schedule of a key, word by word.
-use Rattle.std.proofs.Common.{◌≡◌, ℕ, zero, suc, ◌+◌, ◌-◌, ◌*◌, ◌/◌, ◌%◌, ◌<◌, ◌≤◌, ◌⊎◌, if◌then◌else◌, nat_lt, nat_eq, ◌&&◌, Bool, true, false, List, [], ◌∷◌, ◌++◌, length, take, get_or, slice_set, ⊎_elim, refl, sym, ◌∙◌, ap, arith, add-one, append_assoc}
+use Rattle.std.proofs.Common.{◌≡◌, ℕ, zero, suc, ◌+◌, ◌-◌, ◌*◌, ◌/◌, ◌%◌, ◌<◌, ◌≤◌, ◌⊎◌, nat_lt, nat_eq, ◌&&◌, true, false, List, [], ◌∷◌, ◌++◌, length, take, get_or, slice_set, ⊎_elim, refl, sym, ◌∙◌, ap, arith, add-one, append_assoc}
 use Rattle.std.proofs.lemmas.Bool.Decides.{nat_tests}
 use Rattle.std.proofs.lemmas.List.{append-nil, get_or_append_left, get_or-append_right, get_or-take, length-append, length-take, take_all, take_more, take_more_set}
 use Rattle.perc_aes.specs.Cipher.{IsKeyLength, add_words, key_words, next_word, rotate_word, round_constant, schedule, schedule_core, sub_word, word_at}
@@ -23,21 +23,6 @@ schedule_first key zero below = refl
 schedule_first key (suc n) below =
     let in_key : nat_lt n (length key / 4) ≡ true = grind (arith, nat_tests) in
     rw (in_key, schedule_first key n (omega arith)) (take_word key n (omega arith))
-
-length_either : (test : Bool) (v w : List ℕ) → length v ≡ 4 → length w ≡ 4 → length (if test then v else w) ≡ 4
-length_either true v w size_v size_w = size_v
-length_either false v w size_v size_w = size_w
-
-length-next_word : (key words : List ℕ) (i : ℕ) → length (next_word key words i) ≡ 4
-unfolding next_word
-length-next_word key words i =
-    length_either (nat_lt i (key_words key)) (word_at key i) (add_words (word_at words (i - key_words key)) (schedule_core (key_words key) i (word_at words (i - 1)))) refl refl
-
-length-schedule : (key : List ℕ) (n : ℕ) → length (schedule key n) ≡ 4 * n
-unfolding schedule
-length-schedule key zero = refl
-length-schedule key (suc n) =
-    omega (arith, length-append (schedule key n) (next_word key (schedule key n) n), length-schedule key n, length-next_word key (schedule key n) n)
 
 -- a word from where the key ends on
 next_word_after : (key words : List ℕ) (i : ℕ) → key_words key ≤ i → next_word key words i ≡ add_words (word_at words (i - key_words key)) (schedule_core (key_words key) i (word_at words (i - 1)))

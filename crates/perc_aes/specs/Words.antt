@@ -19,6 +19,11 @@ octets_of_words words = flat_map octets_of_word words
 unfoldable pub octets_of : State → List ℕ
 octets_of s = octets_of_words (s.a ∷ s.b ∷ s.c ∷ s.d ∷ [])
 
+-- the state of the four words from a place on
+abbrev pub state_at : List ℕ → ℕ → State
+state_at words place =
+    record { a = slice_index words place; b = slice_index words (place + 1); c = slice_index words (place + 2); d = slice_index words (place + 3) }
+
 -- an octet times each of these
 abbrev pub multiples : List ℕ → ℕ → List ℕ
 multiples factors octet = map (λ k. product k octet) factors

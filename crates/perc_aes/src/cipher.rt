@@ -8,6 +8,7 @@ use crate::state::{State, octet};
 use crate::tables::{inverse_sub_octet, mixed, sub_octet, unmixed};
 
 // The sum of four words, each turned right by one octet more than the one before.
+#[tactic(auto, using(crate::proofs::StateLaws::turned_sum_is))]
 fn turned_sum(p: u32, q: u32, r: u32, s: u32) -> u32
     ensures { octets_of_word result ≡ turned_sum (octets_of_word p) (octets_of_word q) (octets_of_word r) (octets_of_word s) }
 {
@@ -46,6 +47,7 @@ pub(crate) fn sub_word(word: u32) -> u32
 }
 
 // A whole round.
+#[tactic(auto, using(crate::proofs::StateLaws::mixed_columns))]
 pub(crate) fn whole_round(state: State, key: State) -> State
     ensures { octets_of result ≡ add_round_key (mix_columns (shift_rows (sub_bytes (octets_of state)))) (octets_of key) }
 {
@@ -60,6 +62,7 @@ pub(crate) fn whole_round(state: State, key: State) -> State
 }
 
 // The last round, which has no MixColumns.
+#[tactic(auto, using(crate::proofs::StateLaws::shifted_columns))]
 pub(crate) fn last_round(state: State, key: State) -> State
     ensures { octets_of result ≡ add_round_key (shift_rows (sub_bytes (octets_of state))) (octets_of key) }
 {
@@ -106,6 +109,7 @@ fn unmixed_word(word: u32) -> u32
 }
 
 // InvMixColumns of a round key.
+#[tactic(auto, using(crate::proofs::StateLaws::unmixed_words))]
 fn unmixed_key(key: State) -> State
     ensures { octets_of result ≡ inverse_mix_columns (octets_of key) }
 {
@@ -133,6 +137,7 @@ pub(crate) fn inverse_round(state: State, key: State) -> State
 }
 
 // The last round of the inverse.
+#[tactic(auto, using(crate::proofs::StateLaws::unshifted_columns))]
 pub(crate) fn inverse_last_round(state: State, key: State) -> State
     ensures { octets_of result ≡ add_round_key (inverse_sub_bytes (inverse_shift_rows (octets_of state))) (octets_of key) }
 {

@@ -1,7 +1,8 @@
 // Key expansion (FIPS 197 section 5.2).
-ghost use Rattle.std.specs.Prelude.{◌≡◌, ◌+◌, ◌*◌, ◌/◌, ◌<◌, ◌≤◌, length, slice_index, take};
-ghost use Rattle.perc_aes.specs.Cipher.{IsKeyLength, round_constant, schedule, schedule_core};
-ghost use Rattle.perc_aes.specs.Words.{octets_of_word, octets_of_words};
+ghost use Rattle.std.specs.Prelude.{◌≡◌, ◌+◌, ◌*◌, ◌/◌, ◌<◌, ◌≤◌, length, take};
+ghost use Rattle.perc_aes.specs.Cipher.{IsKeyLength, round_constant, schedule_core};
+ghost use Rattle.perc_aes.specs.KeySchedule.{IsSchedule};
+ghost use Rattle.perc_aes.specs.Words.{octets_of_word, octets_of_words, state_at};
 
 use crate::cipher::sub_word;
 use crate::state::{State, word_at};
@@ -48,7 +49,7 @@ pub(crate) fn copy_key(words: &mut [u32; SCHEDULE_WORDS], key: &[u8])
 // Writes the schedule of the key that is the first key_words words behind it.
 pub(crate) fn expand(words: &mut [u32; SCHEDULE_WORDS], key_words: usize)
     requires { IsKeyLength (4 * key_words) }
-    ensures words { octets_of_words (take (4 * key_words + 28) words.new) ≡ schedule (octets_of_words (take key_words words.old)) (4 * key_words + 28) }
+    ensures schedule { IsSchedule words.new key_words }
     ensures key { take key_words words.new ≡ take key_words words.old }
 {
     for i in key_words..4 * key_words + 28 {
@@ -59,7 +60,7 @@ pub(crate) fn expand(words: &mut [u32; SCHEDULE_WORDS], key_words: usize)
 // The state of the four words from a place on.
 pub(crate) fn four_words(words: &[u32; SCHEDULE_WORDS], place: usize) -> State
     requires { place + 4 ≤ 60 }
-    ensures { result ≡ record { a = slice_index words.now place; b = slice_index words.now (place + 1); c = slice_index words.now (place + 2); d = slice_index words.now (place + 3) } }
+    ensures { result ≡ state_at words.now place }
 {
     State {
         a: words[place],

@@ -39,6 +39,7 @@ impl State {
     }
 
     // AddRoundKey.
+    #[tactic(auto, using(crate::proofs::StateLaws::added))]
     pub(crate) fn add(self, key: State) -> State
         ensures { octets_of result ≡ add_round_key (octets_of self) (octets_of key) }
     {
@@ -65,6 +66,7 @@ pub(crate) fn word_at(octets: &[u8], i: usize) -> u32
 }
 
 // An octet of a word: 0 is the highest.
+#[tactic(auto, using(crate::proofs::StateLaws::octet_is))]
 pub(crate) fn octet(word: u32, place: u32) -> u8
     requires { place < 4 }
     ensures { result ≡ slice_index (octets_of_word word) place }

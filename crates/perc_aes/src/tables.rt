@@ -119,6 +119,7 @@ const UNMIXED: [u32; 256] = [
 const ROUND_CONSTANTS: [u8; 10] = [0x01, 0x02, 0x04, 0x08, 0x10, 0x20, 0x40, 0x80, 0x1b, 0x36];
 
 // The S-box at an octet.
+#[tactic(auto, using(crate::proofs::SBox::s_box_at))]
 pub(crate) fn sub_octet(octet: u8) -> u8
     ensures { result ≡ sub_octet octet }
 {
@@ -126,6 +127,7 @@ pub(crate) fn sub_octet(octet: u8) -> u8
 }
 
 // The inverse S-box at an octet.
+#[tactic(auto, unfolding(crate::specs::Inverse::inverse_sub_octet))]
 pub(crate) fn inverse_sub_octet(octet: u8) -> u8
     ensures { result ≡ inverse_sub_octet octet }
 {
@@ -133,6 +135,7 @@ pub(crate) fn inverse_sub_octet(octet: u8) -> u8
 }
 
 // The column that MixColumns makes of the S-box's octet in row 0.
+#[tactic(auto, using(crate::proofs::TableLaws::mixed_octets))]
 pub(crate) fn mixed(octet: u8) -> u32
     ensures { octets_of_word result ≡ multiples (2 ∷ 1 ∷ 1 ∷ 3 ∷ []) (sub_octet octet) }
 {
@@ -140,6 +143,7 @@ pub(crate) fn mixed(octet: u8) -> u32
 }
 
 // The same for the inverse.
+#[tactic(auto, using(crate::proofs::TableLaws::unmixed_octets))]
 pub(crate) fn unmixed(octet: u8) -> u32
     ensures { octets_of_word result ≡ multiples (14 ∷ 9 ∷ 13 ∷ 11 ∷ []) (inverse_sub_octet octet) }
 {
@@ -147,6 +151,7 @@ pub(crate) fn unmixed(octet: u8) -> u32
 }
 
 // x to the power i.
+#[tactic(auto, using(crate::proofs::SBox::round_constant_at))]
 pub(crate) fn power_of_x(i: usize) -> u8
     requires { i < 10 }
     ensures { result ≡ power_of_x i }

@@ -19,8 +19,8 @@ loop-round-preserved c =
     record {
       some = omega arith;
       leads =
-          leads_back c.args.self.now c.args.block.now (octets_of c.loop-round.state) (octets_of c.inverse_round-state.result) (c.loop-round.round - 1 - 1)
-          (IsBlock-octets_of c.loop-round.state) (rw next c.loop-round.invariant.leads) (rw (next, ← c.round_key-in-loop-round.ensures) c.inverse_round-state.ensures);
+          leads_back c.args.self.now c.args.block.now (octets_of c.loop-round.state) (octets_of c.inverse_round-state.result) _ (c.loop-round.round - 1 - 1) _
+          (IsBlock-octets_of c.loop-round.state) (rw next c.loop-round.invariant.leads) c.inverse_round-state.ensures c.round_key-in-loop-round.ensures (omega arith);
     }
 
 back : (c : goal.After-block-octets) → aes c.args.self.now c.block-octets.result ≡ c.args.block.now

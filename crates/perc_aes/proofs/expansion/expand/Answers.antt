@@ -1,4 +1,4 @@
-use Rattle.std.proofs.Common.{ℕ, List, ◌-◌, refl, rules, arith, ap, ◌∙◌, slice_index}
+use Rattle.std.proofs.Common.{◌≡◌, ℕ, List, ◌+◌, ◌-◌, ◌*◌, refl, rules, arith, ap, ◌∙◌, slice_index}
 use Rattle.std.proofs.lemmas.List.{take-set-le}
 use Rattle.perc_aes.specs.Cipher.{add_words}
 use Rattle.perc_aes.specs.Words.{octets_of_word}
@@ -22,4 +22,12 @@ loop-i-preserved c =
       done =
           expand_more c.loop-i.words c.args.words.now _ c.args.key_words c.loop-i.i c.requires c.told-words c.loop-i.invariant.size (omega arith) (omega arith) c.loop-i.invariant.done
           (word_xor back c.schedule_core.result ∙ ap (λ (v : List ℕ). add_words (octets_of_word back) v) c.schedule_core.ensures);
+    }
+
+pub returns-clause-schedule : goal.returns-clause-schedule
+returns-clause-schedule c =
+    let done : c.loop-i.i ≡ 4 * c.args.key_words + 28 = omega arith in
+    record {
+      size = c.requires;
+      words = rw (← done, c.loop-i.invariant.key) c.loop-i.invariant.done;
     }
