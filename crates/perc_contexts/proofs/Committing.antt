@@ -1,5 +1,5 @@
 -- What a commit changes of the contexts.
-use Rattle.std.proofs.Common.{◌≡◌, ℕ, suc, zero, ◌<◌, Bool, true, false, cond, List, [], ◌∷◌, ◌++◌, length, Option, Some, None, ◌⊎◌, inl, inr, refl, ap, ◌∙◌, sym, subst, arith, set, length-set}
+use Rattle.std.proofs.Common.{◌≡◌, ℕ, suc, zero, ◌<◌, Bool, true, false, cond, List, [], ◌∷◌, ◌++◌, length, Option, Some, None, refl, ap, ◌∙◌, sym, subst, arith, set, length-set}
 use Rattle.std.specs.Prelude.{slice_get, find, nat_le, MatchResult}
 use Rattle.std.specs.List.{AllByRecursion}
 use Rattle.std.proofs.lemmas.Bool.{false_from_ne_true, both_ways, leb-false, or_parts}
@@ -10,7 +10,7 @@ use Rattle.perc_window.proofs.IndexLaws.{freshness_same}
 use Rattle.perc_contexts.specs.Receiving.{Context, Carried, Attempt, new_context, is_full, tries, is_of, context_of, with_index, committed}
 use Rattle.perc_contexts.specs.Kept.{KeptContext, IsOf, AreOf, IsWellKept, new_of}
 use Rattle.perc_contexts.specs.History.{SameContext}
-use Rattle.perc_contexts.proofs.Names.{is_of-parts, is_of-made, same-refl, same-sym, same-trans, Pairs, pairs-from, pairs-to, all_at, Apart, KeptApart, distinct_held, distinct_kept}
+use Rattle.perc_contexts.proofs.Names.{same-refl, same-sym, same-trans, Pairs, pairs-from, pairs-to, all_at, Apart, KeptApart, distinct_held, distinct_kept}
 
 -- a context is that of an attempt, and an attempt's has no context yet
 abbrev pub is_its : Attempt → Context → Bool

@@ -1,17 +1,17 @@
 -- What a receiver holds agrees with what was accepted, over any calls.
-use Rattle.std.proofs.Common.{◌≡◌, ◌≢◌, ℕ, suc, zero, ◌+◌, ◌%◌, ◌<◌, ◌≤◌, Bool, true, false, cond, ◌||◌, List, [], ◌∷◌, ◌++◌, length, get_or, map, filter, Option, Some, None, ◌⊎◌, inl, inr, refl, ap, ◌∙◌, sym, subst, arith}
-use Rattle.std.specs.Prelude.{◌==◌, All, AllPairs, Contains, IfSome, IsTrue, MatchOption, find}
+use Rattle.std.proofs.Common.{◌≡◌, ◌≢◌, ℕ, suc, zero, ◌%◌, ◌<◌, ◌≤◌, Bool, true, false, cond, List, [], ◌∷◌, length, get_or, map, filter, Option, Some, None, ◌⊎◌, inl, inr, refl, ap, ◌∙◌, sym, subst, arith}
+use Rattle.std.specs.Prelude.{◌==◌, Contains, IfSome, IsTrue, MatchOption, find}
 use Rattle.std.specs.List.{AllByRecursion}
-use Rattle.std.proofs.lemmas.Bool.{both_ways, or_parts, eqb-false, eqb-true, false_from_ne_true}
+use Rattle.std.proofs.lemmas.Bool.{both_ways, or_parts, eqb-false, false_from_ne_true}
 use Rattle.std.proofs.lemmas.List.Elements.{All-from_recursion, recursion_from_All, All-contains, All-filter, filter_passes, All-nil, All-cons}
 use Rattle.std.proofs.lemmas.List.Kept.{AllPairs-cons, AllPairs-filter}
 use Rattle.perc_window.specs.Replay.{has}
 use Rattle.perc_window.proofs.IndexLaws.{fresh_has}
-use Rattle.perc_contexts.specs.Receiving.{Context, Receiving, Carried, Attempt, nothing_held, latest, is_live, still_live, renewed, is_of, context_of, with_index, committed}
-use Rattle.perc_contexts.specs.History.{Call, Renew, Commit, IsCommit, IsCall, after_call, after_calls, AreCalls, Acceptance, acceptance_of, accepted_by, is_under, indices_under, SameContext, IsHistory}
-use Rattle.perc_contexts.proofs.Names.{is_of-parts, is_of-made, same-refl, Pairs, pairs-from, pairs-to, Apart}
-use Rattle.perc_contexts.proofs.Committing.{is_its, holds_none, none_here, committed-cons, committed-nil, committed_by, Keeps, committed_all, committed_distinct}
-use Rattle.perc_contexts.proofs.ReceivingLaws.{IsTriedContext, IsHeld, IsNew, IsTried, is_tried}
+use Rattle.perc_contexts.specs.Receiving.{Context, Receiving, Carried, Attempt, nothing_held, latest, is_live, still_live, renewed, is_of, with_index, committed}
+use Rattle.perc_contexts.specs.History.{Call, Renew, Commit, IsCommit, IsCall, after_call, after_calls, AreCalls, Acceptance, acceptance_of, accepted_by, is_under, indices_under, IsHistory}
+use Rattle.perc_contexts.proofs.Names.{is_of-parts, is_of-made, same-refl, pairs-from, pairs-to, Apart}
+use Rattle.perc_contexts.proofs.Committing.{is_its, holds_none, none_here, committed-cons, committed-nil, committed_by, committed_all, committed_distinct}
+use Rattle.perc_contexts.proofs.ReceivingLaws.{IsTriedContext, IsHeld, IsNew, is_tried}
 use Rattle.perc_contexts.proofs.LiveLaws.{rises, increasing, live_latest, last_push, IsAbove, renewed_rises, still_there, renewed_live, live_push, IsRenewal, Added, Refused, renewal}
 
 -- ---- a context that a list contains

@@ -1,17 +1,13 @@
 -- Laws of the live SPIs: they rise, and one that went never comes back.
-use Rattle.std.proofs.Common.{◌≡◌, ℕ, suc, zero, ◌+◌, ◌-◌, ◌<◌, ◌≤◌, Bool, true, false, cond, ◌||◌, List, [], ◌∷◌, ◌++◌, length, drop, get_or, Option, Some, None, Result, Ok, Err, ◌⊎◌, inl, inr, refl, ap, ◌∙◌, sym, subst, arith, length-drop}
-use Rattle.std.specs.Prelude.{◌==◌, nat_le, AllPairs, IfSome, IsTrue, MatchOption}
-use Rattle.std.specs.List.{AllByRecursion, last_or, list_any}
+use Rattle.std.proofs.Common.{◌≡◌, ℕ, suc, zero, ◌+◌, ◌<◌, ◌≤◌, Bool, true, false, ◌||◌, List, [], ◌∷◌, ◌++◌, drop, Option, Some, None, ◌⊎◌, inl, inr, refl, ◌∙◌, sym, subst, arith}
+use Rattle.std.specs.Prelude.{◌==◌, nat_le, IfSome, MatchOption}
+use Rattle.std.specs.List.{AllByRecursion, last_or}
 use Rattle.std.specs.List.Sorted.{IsStrictlyIncreasing}
-use Rattle.std.proofs.lemmas.Bool.{or_cases, eqb-true, leb-true, leb-false, or_right, or_left}
-use Rattle.std.proofs.lemmas.List.{get_or-drop}
+use Rattle.std.proofs.lemmas.Bool.{or_cases, eqb-true, leb-false, or_right, or_left}
 use Rattle.std.proofs.lemmas.List.Folds.{list_any-append}
-use Rattle.std.proofs.lemmas.List.Quantifiers.{all_pairs_push}
 use Rattle.std.proofs.lemmas.List.Kept.{AllPairs-from_increasing}
-use Rattle.std.proofs.lemmas.List.Elements.{All-from_recursion}
-use Rattle.perc_contexts.specs.declared.SpiOld.{SpiOld}
-use Rattle.perc_contexts.specs.Receiving.{Receiving, latest, is_live, retired, still_live, spi_answer, renewed}
-use Rattle.perc_contexts.specs.History.{Call, Renew, Commit, after_renewal, after_call, after_calls, IsCall, AreCalls, NeverAgain}
+use Rattle.perc_contexts.specs.Receiving.{Receiving, latest, is_live, still_live, spi_answer, renewed}
+use Rattle.perc_contexts.specs.History.{Call, Renew, Commit, after_renewal, after_call, after_calls, AreCalls, NeverAgain}
 use Rattle.perc_contexts.proofs.Names.{Pairs, pairs-from, pairs-to}
 
 abbrev pub Rises : List ℕ → Type 0

@@ -1,16 +1,16 @@
 -- Laws of the tries of a packet, and of what a commit changes.
-use Rattle.std.proofs.Common.{◌≡◌, ℕ, suc, ◌+◌, ◌*◌, ◌%◌, ◌^◌, ◌<◌, Bool, true, false, cond, List, [], ◌∷◌, ◌++◌, take, filter, reverse, Option, Some, None, Result, Ok, Err, ◌⊎◌, inl, inr, refl, ap, ◌∙◌, sym, subst, arith}
+use Rattle.std.proofs.Common.{◌≡◌, ℕ, suc, ◌+◌, ◌*◌, ◌%◌, ◌^◌, ◌<◌, Bool, true, false, cond, List, [], ◌∷◌, filter, reverse, Option, Some, None, Result, Ok, Err, refl, ap, ◌∙◌, sym, subst, arith}
 use Rattle.std.specs.Prelude.{◌==◌, find, All, Contains, MatchResult, IfSome}
-use Rattle.std.specs.List.{AllByRecursion, filter_map, cons_option}
+use Rattle.std.specs.List.{AllByRecursion, cons_option}
 use Rattle.std.specs.Option.{option_map}
 use Rattle.std.proofs.lemmas.Bool.{eqb-true, both_ways, false_from_ne_true}
-use Rattle.std.proofs.lemmas.List.Elements.{All-from_recursion, recursion_from_All, All-contains, All-contains_itself, All-take, All-filter, All-weaker, filter_passes}
+use Rattle.std.proofs.lemmas.List.Elements.{All-from_recursion, recursion_from_All, All-contains, All-contains_itself, All-take, All-filter, filter_passes}
 use Rattle.std.proofs.lemmas.List.Sorted.{All-permutation, IsPermutation-reverse}
-use Rattle.perc_window.specs.Index.{IsNearest, nearest}
+use Rattle.perc_window.specs.Index.{nearest}
 use Rattle.perc_window.specs.Replay.{greatest}
 use Rattle.perc_window.proofs.IndexLaws.{nearest_some}
 use Rattle.perc_contexts.specs.declared.KeyLimit.{KeyLimit}
-use Rattle.perc_contexts.specs.Receiving.{Context, Receiving, Carried, Attempt, freshness_of, with_index, committed, is_of, context_of, newest_of, attempt_at, at_nearest, is_full, new_context, carried_context, tries}
+use Rattle.perc_contexts.specs.Receiving.{Context, Receiving, Carried, Attempt, freshness_of, with_index, committed, is_of, context_of, newest_of, at_nearest, is_full, new_context, carried_context, tries}
 use Rattle.perc_contexts.proofs.Names.{is_of-parts, is_of-made, same-refl}
 use Rattle.perc_contexts.proofs.Standing.{at_within}
 use Rattle.perc_contexts.proofs.Committing.{is_its, holds_none, none_here, committed-cons, committed-nil, committed_by}

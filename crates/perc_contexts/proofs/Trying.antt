@@ -1,8 +1,8 @@
 -- The tries that the code finds by places are those under the contexts that are held.
-use Rattle.std.proofs.Common.{◌≡◌, ℕ, zero, suc, ◌+◌, ◌-◌, ◌*◌, ◌^◌, ◌<◌, ◌≤◌, Bool, true, false, cond, eqb, List, [], ◌∷◌, ◌++◌, length, reverse, take, filter, Option, Some, None, Result, Ok, Err, IfOk, inl, inr, refl, ap, ◌∙◌, sym, subst, arith, rules, sub-one, append-nil, append_assoc}
-use Rattle.std.specs.Prelude.{◌==◌, slice_get, find, position, MatchResult}
+use Rattle.std.proofs.Common.{◌≡◌, ℕ, zero, suc, ◌+◌, ◌*◌, ◌^◌, ◌<◌, Bool, true, false, cond, List, [], ◌∷◌, ◌++◌, length, reverse, take, filter, Option, Some, None, Result, Ok, Err, refl, ap, ◌∙◌, sym, arith, sub-one, append-nil, append_assoc}
+use Rattle.std.specs.Prelude.{◌==◌, slice_get, position}
 use Rattle.std.specs.List.{filter_map, cons_option}
-use Rattle.std.specs.Option.{option_map, is_some}
+use Rattle.std.specs.Option.{option_map}
 use Rattle.std.specs.Result.{IsErr}
 use Rattle.std.proofs.lemmas.List.{reverse-append, reverse-reverse, length-reverse}
 use Rattle.std.proofs.lemmas.Bool.Decides.{nat_tests}
@@ -14,7 +14,7 @@ use Rattle.perc_contexts.specs.declared.TryPlace.TheVariants.{Held, New}
 use Rattle.perc_contexts.specs.declared.Try.{Try}
 use Rattle.perc_contexts.specs.declared.KeyLimit.{KeyLimit}
 use Rattle.perc_contexts.specs.Receiving.{Context, Carried, Attempt, is_of, context_of, newest_of, attempt_at, at_nearest, is_full, new_context, carried_context, tries}
-use Rattle.perc_contexts.specs.Kept.{KeptContext, IsOf, AreOf, is_kept_of, context_at, new_of, IsTry, AreTries, IsAnswer}
+use Rattle.perc_contexts.specs.Kept.{KeptContext, AreOf, is_kept_of, new_of, IsTry, AreTries, IsAnswer}
 use Rattle.perc_contexts.specs.Places.{is_kept_full, carried_try, with_try, nearest_tries}
 use Rattle.perc_contexts.proofs.Standing.{are_of-length, are_of-count, are_of-position, are_of-reverse, agree_of, agree_under}
 use Rattle.perc_contexts.proofs.Found.{find_by}

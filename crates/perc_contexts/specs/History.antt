@@ -1,7 +1,6 @@
 -- What happens to a receiver over any list of calls: SPIs are added, and packets accepted by fresh tries.
-use Rattle.std.specs.Prelude.{◌≡◌, ℕ, ◌%◌, ◌<◌, ◌≤◌, ◌≢◌, ◌⊎◌, Bool, true, false, ◌==◌, ◌&&◌, if◌then◌else◌, List, [], ◌∷◌, ◌++◌, Option, Some, None, Result, Ok, Err, All, AllPairs, Contains, MatchResult, IfSome, MatchOption, IsTrue, map, filter}
+use Rattle.std.specs.Prelude.{◌≡◌, ℕ, ◌%◌, ◌<◌, ◌≤◌, ◌≢◌, ◌⊎◌, Bool, List, [], ◌∷◌, Option, Result, Ok, Err, All, AllPairs, Contains, MatchResult, IfSome, MatchOption, IsTrue, map, filter}
 use Rattle.std.specs.List.Sorted.{IsStrictlyIncreasing}
-use Rattle.std.specs.Str.{bytes_eq}
 use Rattle.perc_window.specs.declared.window.Freshness.TheVariants.{Fresh}
 use Rattle.perc_contexts.specs.declared.SpiOld.{SpiOld}
 use Rattle.perc_contexts.specs.Receiving.{Context, Receiving, Carried, Attempt, tries, committed, renewed, spi_answer, freshness_of, is_live, latest, is_of}

@@ -1,10 +1,10 @@
 -- Which tries the code finds in what it keeps.
-use Rattle.std.specs.Prelude.{ℕ, ◌+◌, ◌-◌, ◌*◌, Bool, ◌==◌, ◌&&◌, ◌||◌, nat_le, if◌then◌else◌, List, [], ◌∷◌, length, reverse, position, count_by, Option, Some, None, Result, Ok, Err}
+use Rattle.std.specs.Prelude.{ℕ, ◌+◌, ◌-◌, ◌*◌, Bool, ◌==◌, ◌&&◌, ◌||◌, nat_le, if◌then◌else◌, List, [], ◌∷◌, length, position, count_by, Option, Some, None, Result, Ok, Err}
 use Rattle.perc_window.specs.Index.{nearest}
 use Rattle.perc_contexts.specs.declared.TryPlace.TheVariants.{Held, New}
 use Rattle.perc_contexts.specs.declared.Try.{Try}
 use Rattle.perc_contexts.specs.declared.KeyLimit.{KeyLimit}
-use Rattle.perc_contexts.specs.Receiving.{Carried, most_contexts, most_keys, tried_contexts}
+use Rattle.perc_contexts.specs.Receiving.{Carried, most_contexts, most_keys}
 use Rattle.perc_contexts.specs.Kept.{KeptContext, is_kept_of}
 
 -- there is no room for one more of this sender under this SPI

@@ -1,7 +1,7 @@
 -- What a receiver holds of its senders' keys, as lists, and which of them a packet is tried under. A context is a key of a
 -- sender (by its SSRC) under an SPI (RFC 8870 section 4.1), with the indices that were accepted under it. An SPI is live
 -- where the record of its EKT key is held. The bounds and the order of trying are this product's own.
-use Rattle.std.specs.Prelude.{◌≡◌, ℕ, ◌+◌, ◌-◌, ◌*◌, ◌^◌, ◌<◌, ◌≤◌, ◌≢◌, Bool, not, ◌==◌, ◌&&◌, ◌||◌, nat_le, if◌then◌else◌, List, [], ◌∷◌, ◌++◌, length, filter, drop, take, reverse, find, count_by, Option, Some, None, Result, Ok, Err}
+use Rattle.std.specs.Prelude.{ℕ, ◌+◌, ◌-◌, ◌*◌, Bool, ◌==◌, ◌&&◌, ◌||◌, nat_le, if◌then◌else◌, List, [], ◌∷◌, ◌++◌, length, filter, drop, take, reverse, find, count_by, Option, Some, None, Result, Ok, Err}
 use Rattle.std.specs.List.{last_or, list_any, filter_map}
 use Rattle.std.specs.Option.{option_map}
 use Rattle.std.specs.Str.{bytes_eq}

@@ -270,3 +270,31 @@ fn no_room(rt: HostRuntime) -> Result<(), Fail> {
     );
     Ok(())
 }
+
+// Ten thousand packets are tried where 512 contexts are held, under a key of the sender whose contexts are the oldest.
+#[test]
+fn tries_when_full(rt: HostRuntime) -> Result<(), Fail> {
+    let Ok(mut contexts) = Contexts::with_room(rt.alloc()) else {
+        return Err("no memory".into());
+    };
+    add_all(&rt, &mut contexts, &[(1, Ok(None))]);
+    for ssrc in 5..13u32 {
+        fill(&rt, &mut contexts, ssrc, 64);
+    }
+    let key = Key {
+        spi: 1,
+        number: 63,
+        roc: 0,
+    };
+    let wanted = [
+        held(63, 11),
+        held(63, 11),
+        held(62, 11),
+        held(61, 11),
+        held(60, 11),
+    ];
+    for _ in 0..10000 {
+        check_tries(&rt, &contexts, Some(key), &wanted);
+    }
+    Ok(())
+}

@@ -1,8 +1,8 @@
 -- The context at the place has the index too, or the new one is behind the others.
-use Rattle.std.proofs.Common.{◌≡◌, ◌<◌, ◌%◌, ◌++◌, ◌∷◌, [], Some, get_or, length, ap, ◌∙◌, sym, subst, rules, arith}
+use Rattle.std.proofs.Common.{◌≡◌, ◌<◌, ◌%◌, Some, length, ap, ◌∙◌, arith}
 use Rattle.std.specs.Prelude.{slice_get}
-use Rattle.perc_contexts.specs.Receiving.{Context, Receiving, Attempt, with_index}
-use Rattle.perc_contexts.specs.Kept.{IsTry, AreOf, told, told_of, new_of, IsOf}
+use Rattle.perc_contexts.specs.Receiving.{with_index}
+use Rattle.perc_contexts.specs.Kept.{AreOf, told_of, new_of, IsOf}
 use Rattle.perc_contexts.proofs.Standing.{are_of-at, are_of-length, at_within}
 use Rattle.perc_contexts.proofs.Committing.{fresh_kept, well_kept_held, well_kept_new, committed_new, is_new, room_for, few_held}
 use Rattle.perc_contexts.proofs.Contexts.commit.Goals as goal

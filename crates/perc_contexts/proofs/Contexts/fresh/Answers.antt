@@ -1,5 +1,5 @@
 -- The context at the place says what its window says.
-use Rattle.std.proofs.Common.{◌≡◌, Some, get_or, ap, ◌∙◌, sym, rules}
+use Rattle.std.proofs.Common.{◌≡◌, Some, ap, ◌∙◌}
 use Rattle.std.specs.Prelude.{slice_get}
 use Rattle.perc_window.specs.Replay.{freshness}
 use Rattle.perc_contexts.proofs.Standing.{are_of-at, at_within}

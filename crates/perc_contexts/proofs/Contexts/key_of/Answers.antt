@@ -1,5 +1,5 @@
 -- The context at the place has this SPI and this key.
-use Rattle.std.proofs.Common.{◌≡◌, Some, get_or, refl}
+use Rattle.std.proofs.Common.{refl}
 use Rattle.perc_contexts.proofs.Standing.{key_at}
 use Rattle.perc_contexts.proofs.Contexts.key_of.Goals as goal
 

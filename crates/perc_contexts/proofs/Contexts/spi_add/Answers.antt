@@ -1,6 +1,4 @@
 -- The contexts of the SPIs that stay are kept, and stand for those that are held.
-use Rattle.std.proofs.Common.{◌∙◌, sym, ap, ◌++◌, ◌∷◌, []}
-use Rattle.perc_contexts.specs.Receiving.{still_live}
 use Rattle.perc_contexts.proofs.Standing.{well_kept-filter, renewed_stands}
 use Rattle.perc_contexts.proofs.Contexts.spi_add.Goals as goal
 

@@ -1,7 +1,7 @@
 -- The tries by places are those under the contexts that are held.
-use Rattle.std.proofs.Common.{◌≡◌, ◌∷◌, ◌++◌, ◌<◌, ◌^◌, reverse, Ok, Err, sym, ap, ◌∙◌}
+use Rattle.std.proofs.Common.{◌≡◌, Ok, Err}
 use Rattle.perc_contexts.specs.Kept.{told_of}
-use Rattle.perc_contexts.specs.Places.{carried_try, nearest_tries}
+use Rattle.perc_contexts.specs.Places.{carried_try}
 use Rattle.perc_contexts.proofs.Trying.{made, made_alone, refused}
 use Rattle.perc_contexts.proofs.Contexts.tries.Goals as goal
 use Rattle.perc_contexts.proofs.Contexts.tries.Goals.{in-Some+in_ok-try_carried, in_default}

@@ -1,5 +1,4 @@
 -- A try that was answered and is fresh may be committed.
-use Rattle.std.proofs.Common.{◌≡◌, Some}
 use Rattle.std.specs.Prelude.{Contains}
 use Rattle.perc_contexts.specs.Receiving.{committed}
 use Rattle.perc_contexts.proofs.Lists.{first-contained}
