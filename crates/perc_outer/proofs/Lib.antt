@@ -1,3 +1,4 @@
 pub mod Finding
 mod Standing
 mod Searching
+mod Opening
