@@ -1,4 +1,7 @@
-pub mod Finding
+mod Finding
 mod Standing
 mod Searching
 mod Opening
+mod Datagrams
+pub mod Outer
+mod Telling
