@@ -2,10 +2,11 @@
 use Rattle.std.specs.Prelude.{◌≡◌, ℕ, ◌+◌, List, [], ◌∷◌, ◌++◌, length, take, drop, ◌==◌, Option, Some, None, find, Result, Ok, Err}
 use Rattle.perc_window.specs.Replay.{Marks, StandsFor as WindowStandsFor}
 use Rattle.perc_srtp.specs.Ends.{Stream}
-use Rattle.perc_rtp.specs.Header.{spelling}
+use Rattle.perc_srtp.specs.Sealed.{BeginsWith}
+use Rattle.perc_rtp.specs.Header.{Header, spelling}
 use Rattle.perc_ohb.specs.Block as ohb
 use Rattle.perc_ekt.specs.Field as ekt
-use Rattle.perc_outer.specs.Streams.{OuterStream, is_of}
+use Rattle.perc_outer.specs.Streams.{OuterStream, is_of, with_index}
 use Rattle.perc_ohb.specs.declared.block.OhbFault.{OhbFault}
 use Rattle.perc_outer.specs.declared.fault.OuterFault.{OuterFault}
 use Rattle.perc_outer.specs.declared.fault.OuterFault.TheVariants.{Ohb}
@@ -28,6 +29,13 @@ pub record StandsFor (kept : List Stream) (streams : List OuterStream) : Type 0 
   pub count : length kept ≡ length streams
   pub each : (ssrc : ℕ) → SameStream (kept_of kept ssrc) (find (is_of ssrc) streams)
 
+-- What is answered for a packet with this header that opens so, and which streams are kept and octets stand there then.
+abbrev pub IsUnsealed : Header → List OuterStream → Result (ℕ × List ℕ) OuterFault → Result ℕ OuterFault → List Stream → List ℕ → Type 0
+IsUnsealed h before (Err fault) result kept octets = result ≡ Err fault
+IsUnsealed h before (Ok opened) result kept octets =
+    (result ≡ Ok (length (spelling h ++ opened.1))) × BeginsWith (spelling h ++ opened.1) octets
+    × StandsFor kept (with_index h.ssrc opened.0 before)
+
 -- What is told of an opened datagram, and where its parts stand in the octets: the header, the inner octets and the block; 16
 -- octets that aren't specified, where the outer tag stood; and the field.
 pub record IsTold (told : Reached) (o : Opened) (octets : List ℕ) : Type 0 where
@@ -38,10 +46,15 @@ pub record IsTold (told : Reached) (o : Opened) (octets : List ℕ) : Type 0 whe
   pub packet : take told.len octets ≡ spelling o.header ++ o.inner ++ ohb.spelling o.block
   pub field : told.field ≡ ekt.told_of o.field (told.len + 16)
   pub field_octets : drop (told.len + 16) octets ≡ ekt.spelling o.field
-  pub index : told.index ≡ o.index
 
 -- What is answered for it, and what stands in the octets then.
 abbrev pub IsReach : Reach → Result Reached OuterFault → List ℕ → Type 0
 IsReach (datagram.Refused fault) result octets = result ≡ Err fault
 IsReach (datagram.Blocked ssrc index fault) result octets = result ≡ Err (Ohb fault)
 IsReach (datagram.Reached o) result octets = (told : Reached) × (result ≡ Ok told) × IsTold told o octets
+
+-- What stays as it was where a datagram is refused before anything is accepted.
+abbrev pub KeepsWhenRefused : Result Reached OuterFault → Type 0 → Type 0
+KeepsWhenRefused (Ok told) Keeps = Unit {0}
+KeepsWhenRefused (Err (Ohb fault)) Keeps = Unit {0}
+KeepsWhenRefused (Err fault) Keeps = Keeps

@@ -1,3 +1,5 @@
 pub mod Streams
 pub mod Datagram
 pub mod Kept
+pub mod Places
+pub mod Parts

@@ -1,6 +1,8 @@
 // Why a datagram isn't opened hop by hop.
+use perc_ekt::FieldFault;
 use perc_ohb::OhbFault;
 use perc_rtp::RtpFault;
+use perc_srtp::RxFault;
 
 /// Why a datagram isn't opened hop by hop, in the order of looking (RFC 8870 section 4.3, RFC 8723 section 5.3).
 #[derive(Clone, Copy, Debug, PartialEq, Eq)]
@@ -27,4 +29,57 @@ pub enum OuterFault {
     OuterTag,
     /// What was opened doesn't end in a block of originals.
     Ohb(OhbFault),
+}
+
+impl From<FieldFault> for OuterFault {
+    ghost use Rattle.std.specs.Prelude.{◌≡◌};
+    ghost use Rattle.perc_outer.specs.Datagram.{field_refusal};
+
+    ghost from_gives = { λ fault refusal. refusal ≡ field_refusal fault };
+
+    fn from(fault: FieldFault) -> OuterFault {
+        match fault {
+            FieldFault::NoField => OuterFault::NoField,
+            FieldFault::Type01 => OuterFault::EktType,
+            FieldFault::Length => OuterFault::EktLength,
+        }
+    }
+}
+
+impl From<RtpFault> for OuterFault {
+    ghost use Rattle.std.specs.Prelude.{◌≡◌};
+    ghost use Rattle.perc_outer.specs.declared.fault.OuterFault.TheVariants.{Rtp};
+
+    ghost from_gives = { λ fault refusal. refusal ≡ Rtp fault };
+
+    fn from(fault: RtpFault) -> OuterFault {
+        OuterFault::Rtp(fault)
+    }
+}
+
+impl From<RxFault> for OuterFault {
+    ghost use Rattle.std.specs.Prelude.{◌≡◌};
+    ghost use Rattle.perc_outer.specs.Datagram.{packet_refusal};
+
+    ghost from_gives = { λ fault refusal. refusal ≡ packet_refusal fault };
+
+    fn from(fault: RxFault) -> OuterFault {
+        match fault {
+            RxFault::Short => OuterFault::OuterShort,
+            RxFault::TooOld => OuterFault::OuterOld,
+            RxFault::Repeated => OuterFault::OuterRepeated,
+            RxFault::Tag => OuterFault::OuterTag,
+        }
+    }
+}
+
+impl From<OhbFault> for OuterFault {
+    ghost use Rattle.std.specs.Prelude.{◌≡◌};
+    ghost use Rattle.perc_outer.specs.declared.fault.OuterFault.TheVariants.{Ohb};
+
+    ghost from_gives = { λ fault refusal. refusal ≡ Ohb fault };
+
+    fn from(fault: OhbFault) -> OuterFault {
+        OuterFault::Ohb(fault)
+    }
 }

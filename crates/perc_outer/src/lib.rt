@@ -4,6 +4,8 @@
 
 mod fault;
 mod reaching;
+mod streams;
 
 pub use fault::OuterFault;
-pub use reaching::Reached;
+pub use reaching::{Reached, reach};
+pub use streams::OuterStreams;
