@@ -137,7 +137,7 @@ pub record IsAcceptedAs (table : Table) (row : Row) (answer : Result Accepted Re
 -- A receiver holds some of the secrets that were issued, the live ones, and contexts under these alone.
 pub record IsHolding (issued : List Secret) (r : Receiver) : Type 0 where
   pub secrets : AreSecrets r.secrets
-  pub issued : All (λ s. secret_of issued s.spi ≡ Some s) r.secrets
+  pub known : All (λ s. secret_of issued s.spi ≡ Some s) r.secrets
   pub live : All (λ c. IsTrue (is_live (live_of r.secrets) c.spi)) r.contexts
 
 -- what was accepted, as its contexts tell it
