@@ -1,9 +1,10 @@
 -- Who answers what a wrapped key opens to, and what a sealed inner packet opens to: the ciphers under the secrets that a
 -- receiver holds, or a table of what was sent.
-use Rattle.std.specs.Prelude.{ℕ, Bool, ◌==◌, ◌&&◌, List, Option, Some, None, Result, Ok, Err, length, find}
+use Rattle.std.specs.Prelude.{ℕ, Bool, true, false, ◌==◌, ◌&&◌, List, Option, Some, None, Result, Ok, Err, length, find}
 use Rattle.std.specs.Option.{option_map}
 use Rattle.std.specs.Str.{bytes_eq}
-use Rattle.perc_rtp.specs.Header.{Header, spelling}
+use Rattle.perc_rtp.specs.Header.{Header}
+use Rattle.perc_ohb.specs.Rewriting.{same}
 use Rattle.perc_srtp.specs.Sealed.{unsealed_body}
 use Rattle.perc_ekt.specs.Key.{WrappedKey, opened_key}
 use Rattle.perc_ekt.specs.declared.key.KeyFault.{KeyFault}
@@ -45,11 +46,23 @@ abbrev pub told_wrap : Option Wrap → Result WrappedKey KeyFault
 told_wrap None = Err Unwrap
 told_wrap (Some w) = Ok (record { key = w.key; ssrc = w.ssrc; roc = w.roc })
 
+abbrev pub same_extension : Option (ℕ × List ℕ) → Option (ℕ × List ℕ) → Bool
+same_extension None None = true
+same_extension None (Some f) = false
+same_extension (Some e) None = false
+same_extension (Some e) (Some f) = e.0 == f.0 && bytes_eq e.1 f.1
+
+-- They are one header, field by field.
+abbrev pub same_header : Header → Header → Bool
+same_header g h =
+    same g.padding h.padding && same g.marker h.marker && g.pt == h.pt && g.seq == h.seq && g.timestamp == h.timestamp && g.ssrc == h.ssrc
+    && bytes_eq g.csrcs h.csrcs && same_extension g.extension h.extension
+
 -- it is the row of this context and index, with this header and these inner octets
 abbrev pub is_row : Context → ℕ → Header → List ℕ → Row → Bool
 is_row c index h octets row =
     row.spi == c.spi && row.ssrc == c.ssrc && bytes_eq row.key c.key && row.index == index
-    && bytes_eq (spelling row.header) (spelling h) && bytes_eq row.inner octets
+    && same_header row.header h && bytes_eq row.inner octets
 
 abbrev pub row_of : Table → Context → ℕ → Header → List ℕ → Option Row
 row_of table c index h octets = find (is_row c index h octets) table.rows

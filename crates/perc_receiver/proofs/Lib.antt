@@ -1,0 +1,4 @@
+pub mod Headers
+pub mod Secrets
+pub mod Tried
+pub mod Agreeing
