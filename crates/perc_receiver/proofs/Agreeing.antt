@@ -224,7 +224,7 @@ carries_live f secrets ssrc (Full octets spi epoch) carried e =
 
 -- ---- a datagram
 
-tries_are : (t : Result (List Attempt) KeyLimit) (attempts : List Attempt) → some_tries t ≡ Ok attempts → t ≡ Ok attempts
+pub tries_are : (t : Result (List Attempt) KeyLimit) (attempts : List Attempt) → some_tries t ≡ Ok attempts → t ≡ Ok attempts
 tries_are (Err e) attempts h = absurd (cc)
 tries_are (Ok []) attempts h = absurd (cc)
 tries_are (Ok (a ∷ rest)) attempts h = let same : a ∷ rest ≡ attempts = cc in ap Ok same

@@ -12,7 +12,7 @@ use Rattle.perc_outer.specs.Datagram as outer
 use Rattle.perc_outer.specs.Datagram.{Opened, original_header}
 use Rattle.perc_receiver.specs.declared.refusal.Refusal.{Refusal}
 use Rattle.perc_contexts.specs.History.{Acceptance, IsHistory, acceptance_of}
-use Rattle.perc_receiver.specs.Table.{Secret, IsSecret, AreSecrets, AreOctets, Row, Wrap, Table, secret_of}
+use Rattle.perc_receiver.specs.Table.{Secret, IsSecret, AreSecrets, Row, Wrap, Table, secret_of}
 use Rattle.perc_receiver.specs.Opener.{wrap_of}
 use Rattle.perc_receiver.specs.Receiver.{Receiver, Accepted, live_of, granted, outcome, reach_of, receiving}
 use Rattle.perc_receiver.specs.Foreign.{is_foreign}
@@ -60,7 +60,7 @@ abbrev pub AreCalls : Table → Receiver → List Call → Type 0
 AreCalls table r [] = Unit {0}
 AreCalls table r (Grant s ∷ calls) = IsSecret s × AreCalls table (after_call r (Grant s)) calls
 AreCalls table r (Hear datagram ∷ calls) =
-    AreOctets datagram × (is_foreign table r datagram ≡ false) × AreCalls table (after_call r (Hear datagram)) calls
+    (is_foreign table r datagram ≡ false) × AreCalls table (after_call r (Hear datagram)) calls
 
 -- ---- accepted once, as sent
 
