@@ -5,3 +5,4 @@ pub mod Agreeing
 pub mod Taken
 pub mod Calling
 pub mod Once
+pub mod Genuine

@@ -26,5 +26,5 @@ pub fn each_call()
 
 /// A genuine packet is accepted: as the row of the first fresh try that is one.
 pub fn genuine_accepted()
-    ensures { (issued : List Secret) (table : Table) (r : Receiver) (datagram : List ℕ) (o : Opened) (row : Row) → IsHolding issued r → IsRight issued table → IsGenuine table r datagram o row → IsAcceptedAs table row (ideal table r datagram).0 }
+    ensures { (issued : List Secret) (table : Table) (r : Receiver) (datagram : List ℕ) (o : Opened) (row : Row) → IsRight issued table → IsGenuine table r datagram o row → IsAcceptedAs table row (ideal table r datagram).0 }
 {}
