@@ -1,0 +1,5 @@
+pub mod Table
+pub mod Opener
+pub mod Receiver
+pub mod Foreign
+pub mod Calls
