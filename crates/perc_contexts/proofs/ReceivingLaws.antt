@@ -1,6 +1,6 @@
 -- Laws of the tries of a packet, and of what a commit changes.
 use Rattle.std.proofs.Common.{◌≡◌, ℕ, suc, ◌+◌, ◌*◌, ◌%◌, ◌^◌, ◌<◌, Bool, true, false, cond, List, [], ◌∷◌, filter, reverse, Option, Some, None, Result, Ok, Err, refl, ap, ◌∙◌, sym, subst, arith}
-use Rattle.std.specs.Prelude.{◌==◌, find, All, Contains, MatchResult, IfSome}
+use Rattle.std.specs.Prelude.{◌==◌, find, All, Contains, MatchResult, IfSome, IsTrue}
 use Rattle.std.specs.List.{AllByRecursion, cons_option}
 use Rattle.std.specs.Option.{option_map}
 use Rattle.std.proofs.lemmas.Bool.{eqb-true, both_ways, false_from_ne_true}
@@ -10,14 +10,15 @@ use Rattle.perc_window.specs.Index.{nearest}
 use Rattle.perc_window.specs.Replay.{greatest}
 use Rattle.perc_window.proofs.IndexLaws.{nearest_some}
 use Rattle.perc_contexts.specs.declared.KeyLimit.{KeyLimit}
-use Rattle.perc_contexts.specs.Receiving.{Context, Receiving, Carried, Attempt, freshness_of, with_index, committed, is_of, context_of, newest_of, at_nearest, is_full, new_context, carried_context, tries}
+use Rattle.perc_contexts.specs.Receiving.{Context, Receiving, Carried, Attempt, is_live, freshness_of, with_index, committed, is_of, context_of, newest_of, at_nearest, is_full, new_context, carried_context, tries}
 use Rattle.perc_contexts.proofs.Names.{is_of-parts, is_of-made, same-refl}
 use Rattle.perc_contexts.proofs.Standing.{at_within}
 use Rattle.perc_contexts.proofs.Committing.{is_its, holds_none, none_here, committed-cons, committed-nil, committed_by}
 use Rattle.perc_contexts.specs.declared.TryPlace.{TryPlace}
 use Rattle.perc_contexts.specs.declared.TryPlace.TheVariants.{Held, New}
 use Rattle.perc_contexts.specs.declared.Try.{Try}
-use Rattle.perc_contexts.specs.Kept.{Kept, StandsFor, IsTry, AreTries, IsAnswer, IsPlace, MayCommit, CanCommit}
+use Rattle.perc_contexts.specs.Kept.{Kept, StandsFor, IsTry, AreTries, IsAnswer, IsCarried, IsPlace, MayCommit, CanCommit}
+use Rattle.perc_contexts.specs.History.{IsCommit}
 use Rattle.arrayvec.specs.ArrayVec.{ArrayVec}
 use Rattle.perc_window.specs.declared.window.Freshness.TheVariants.{Fresh}
 
@@ -290,3 +291,12 @@ answered_commit kept held ssrc seq carried list t fits stands h there fresh =
       stands = stands;
       may = may_commit held ssrc seq carried h.attempts t one.attempt fits h.is one.is_try one.there (sym (fresh one.attempt one.is_try));
     }
+
+live_of : (live : List ℕ) (carried : Option Carried) → IsCarried live carried → IfSome carried (λ c. IsTrue (is_live live c.spi))
+live_of live None h = tt
+live_of live (Some c) h = h.live_is
+
+-- What may be committed is a commit of the calls' history.
+pub is_commit : (held : Receiving) (ssrc : ℕ) (carried : Option Carried) (t : Try) (a : Attempt) → IsCarried held.live carried
+    → MayCommit held ssrc carried t a → IsCommit held ssrc carried a
+is_commit held ssrc carried t a h may = record { live = live_of held.live carried h; tried = may.tried; fresh = may.fresh }

@@ -4,8 +4,9 @@ use Rattle.std.specs.Borrow.{Bor}
 use Rattle.std.specs.Str.{bytes_eq}
 use Rattle.std.specs.Option.{option_map, is_some}
 use Rattle.perc_window.specs.Replay.{Marks, StandsFor as WindowStandsFor}
+use Rattle.perc_window.specs.declared.window.Freshness.{Freshness}
 use Rattle.perc_window.specs.declared.window.Freshness.TheVariants.{Fresh}
-use Rattle.perc_contexts.specs.Receiving.{most_contexts, is_live, context_of, Context, Receiving, Carried, Attempt, new_context, tries, freshness_of}
+use Rattle.perc_contexts.specs.Receiving.{most_contexts, is_live, context_of, Context, Receiving, Carried, Attempt, new_context, tries, freshness_of, committed}
 use Rattle.perc_contexts.specs.declared.TryPlace.{TryPlace}
 use Rattle.perc_contexts.specs.declared.TryPlace.TheVariants.{Held, New}
 use Rattle.perc_contexts.specs.declared.Try.{Try}
@@ -124,3 +125,27 @@ pub record CanCommit (kept : Kept) (ssrc : ℕ) (carried : Option Carried) (try 
   pub attempt : Attempt
   pub stands : StandsFor kept held
   pub may : MayCommit held ssrc carried try attempt
+
+-- ---- what the calls say, for whatever is held
+
+-- These are the tries of a packet with this SSRC and this SEQ, or its refusal.
+abbrev pub AnswersTries : Kept → ℕ → ℕ → Option Carried → Result (ArrayVec Try) KeyLimit → Type 0
+AnswersTries kept ssrc seq carried answer =
+    (held : Receiving) → StandsFor kept held → IsAnswer held.contexts ssrc carried (tries held.contexts ssrc seq carried) answer
+
+-- This is the SPI and the key of the context at a place.
+abbrev pub IsKeyAt : Kept → ℕ → ℕ → List ℕ → Type 0
+IsKeyAt kept place spi key =
+    (held : Receiving) → StandsFor kept held → IfSome (slice_get held.contexts place) (λ c. (spi ≡ c.spi) × (key ≡ c.key))
+
+-- This is what the context of a try says to its index.
+abbrev pub TellsFreshness : Kept → Try → Freshness → Type 0
+TellsFreshness kept try says =
+    (held : Receiving) (ssrc : ℕ) (carried : Option Carried) (a : Attempt) → StandsFor kept held → IsTry held.contexts ssrc carried try a
+    → says ≡ freshness_of a
+
+-- A packet was accepted by a try.
+abbrev pub Commits : Kept → ℕ → Option Carried → Try → Kept → Type 0
+Commits before ssrc carried try after =
+    (held : Receiving) (a : Attempt) → StandsFor before held → IsTry held.contexts ssrc carried try a
+    → StandsFor after (record held { contexts = committed a held.contexts })

@@ -2,11 +2,11 @@
 //! tried under (RFC 8870 section 4.1, RFC 3711 section 3.3). No cryptography is done here.
 #![tactic(auto)]
 
-ghost use Rattle.std.specs.Prelude.{◌≡◌, ℕ, ◌<◌, ◌⊎◌, length, slice_get, Option, IfOk, IfSome, OnOk, OnErr};
+ghost use Rattle.std.specs.Prelude.{◌≡◌, ◌<◌, ◌⊎◌, length, IfOk, OnOk, OnErr};
 ghost use Rattle.arrayvec.specs.ArrayVec.{array_vec_len};
 ghost use Rattle.perc_contexts.specs.Receiving as spec;
-ghost use Rattle.perc_contexts.specs.Receiving.{Receiving, Attempt, Carried, committed, freshness_of, is_live, nothing_held, renewed, retired, spi_answer, still_live};
-ghost use Rattle.perc_contexts.specs.Kept.{CanCommit, IsAnswer, IsCarried, IsPlace, IsTry, StandsFor, told};
+ghost use Rattle.perc_contexts.specs.Receiving.{Receiving, is_live, nothing_held, renewed, retired, spi_answer, still_live};
+ghost use Rattle.perc_contexts.specs.Kept.{AnswersTries, CanCommit, Commits, IsCarried, IsKeyAt, IsPlace, StandsFor, TellsFreshness, told};
 
 mod installed;
 pub mod laws;
@@ -146,7 +146,7 @@ impl Contexts {
         carried: Option<&CarriedKey<'_>>,
     ) -> Result<TryList, KeyLimit>
         requires { IsCarried self.now.live (told carried) }
-        ensures { (held : Receiving) → StandsFor self.now held → IsAnswer held.contexts ssrc (told carried.entry) (spec.tries held.contexts ssrc seq (told carried.entry)) result }
+        ensures { AnswersTries self.now ssrc seq (told carried.entry) result }
     {
         let mut list = TryList::new();
         if let Some(carried) = carried {
@@ -159,7 +159,7 @@ impl Contexts {
     /// The SPI and the key, of 16 or 32 octets, of the context at a place, by its number in the order of installing.
     pub fn key_of(&self, place: usize) -> (u16, &[u8])
         requires { place < length self.now.contexts }
-        ensures value { (held : Receiving) → StandsFor self.now held → IfSome (slice_get held.contexts place) (λ c. (result.0 ≡ c.spi) × (result.1.now ≡ c.key)) }
+        ensures value { IsKeyAt self.now place result.0 result.1.now }
         ensures length { (length result.1.now ≡ 16) ⊎ (length result.1.now ≡ 32) }
     {
         let context = &self.contexts[place];
@@ -169,7 +169,7 @@ impl Contexts {
     /// What the context of a try says to its index; a new context says that it is fresh.
     pub fn fresh(&self, attempt: &Try) -> Freshness
         requires { IsPlace self.now.contexts attempt.now.place }
-        ensures { (held : Receiving) (ssrc : ℕ) (carried : Option Carried) (a : Attempt) → StandsFor self.now held → IsTry held.contexts ssrc carried attempt.now a → result ≡ freshness_of a }
+        ensures { TellsFreshness self.now attempt.now result }
     {
         match attempt.place {
             TryPlace::Held(place) => self.contexts[place].fresh(attempt.index),
@@ -182,7 +182,7 @@ impl Contexts {
     pub fn commit(&mut self, ssrc: u32, attempt: &Try, carried: Option<&CarriedKey<'_>>)
         requires key { IsCarried self.old.live (told carried) }
         requires may { CanCommit self.old ssrc (told carried) attempt.now }
-        ensures { (held : Receiving) (a : Attempt) → StandsFor self.old held → IsTry held.contexts ssrc (told carried.entry) attempt.now a → StandsFor self.new (record held { contexts = committed a held.contexts }) }
+        ensures { Commits self.old ssrc (told carried.entry) attempt.now self.new }
     {
         match (attempt.place, carried) {
             (TryPlace::Held(place), _) => self.contexts[place].accept(attempt.index),
