@@ -107,8 +107,10 @@ pub fn inner_unseal(
     ensures answer { (h : Header) → IsPacket h [] header.now → MatchOption (unsealed_body inner.now index h body.old)
         (IsErr result × (body.new ≡ body.old))
         (λ plain. (result ≡ Ok (length plain)) × BeginsWith plain body.new) }
-    ensures opened { (h : Header) → IsPacket h [] header.now → IfOk result (λ n. (n + 16 ≡ length body.old) × (body.old ≡ sealed_body inner.now index h (take n body.new))) }
-    ensures tag { (h : Header) → IsPacket h [] header.now → result ≡ Err InnerFault.Tag → (plain : List ℕ) → body.old ≡ sealed_body inner.now index h plain → ⊥ }
+    ensures opened { (h : Header) → IsPacket h [] header.now
+        → IfOk result (λ n. (n + 16 ≡ length body.old) × (body.old ≡ sealed_body inner.now index h (take n body.new))) }
+    ensures tag { (h : Header) → IsPacket h [] header.now → result ≡ Err InnerFault.Tag
+        → (plain : List ℕ) → body.old ≡ sealed_body inner.now index h plain → ⊥ }
     ensures refused { OnErr result (body.new ≡ body.old) }
 {
     let Some(len) = tag_start(body) else {

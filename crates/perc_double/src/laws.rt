@@ -14,5 +14,6 @@ pub fn one_relay()
 
 /// The index at which a packet is relayed is none of those sealed before, and is below 2^48.
 pub fn each_index_once()
-    ensures { (before : List ℕ) (h : Header) (octets : List ℕ) (o : Ohb) (c : Change) (index : ℕ) → relay_place before h octets o c ≡ Ok index → IsNext before (relayed h c).seq index }
+    ensures { (before : List ℕ) (h : Header) (octets : List ℕ) (o : Ohb) (c : Change) (index : ℕ)
+        → relay_place before h octets o c ≡ Ok index → IsNext before (relayed h c).seq index }
 {}

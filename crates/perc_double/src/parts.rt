@@ -45,7 +45,8 @@ pub(crate) fn put_body(octets: &[u8], ohb: &Ohb, out: &mut [u8; 1500], at: usize
     requires at { at ≤ 1500 }
     requires few { length octets.now ≤ 1500 }
     ensures { MatchOption result (1500 < at + length octets.now + length (block.spelling ohb.now) + 16)
-        (λ n. (n + 16 ≤ 1500) × (n ≡ at + length octets.now + length (block.spelling ohb.now)) × (take n out.new ≡ take at out.old ++ (octets.now ++ block.spelling ohb.now))) }
+        (λ n. (n + 16 ≤ 1500) × (n ≡ at + length octets.now + length (block.spelling ohb.now))
+        × (take n out.new ≡ take at out.old ++ (octets.now ++ block.spelling ohb.now))) }
 {
     if sealed_len(octets, ohb, at) > out.len() {
         return None;
@@ -82,7 +83,8 @@ pub(crate) fn write_header(packet: &[u8], extension: ExtChange<'_>, out: &mut [u
     requires reads { IsRtp packet.now }
     requires extension { IsExtChange extension }
     ensures within { result ≤ 1500 }
-    ensures header { (h : Header) (rest : List ℕ) → IsPacket h rest packet.now → IsPacket (with_extension (changed_extension h.extension extension.entry) h) [] (take result out.new) }
+    ensures header { (h : Header) (rest : List ℕ) → IsPacket h rest packet.now
+        → IsPacket (with_extension (changed_extension h.extension extension.entry) h) [] (take result out.new) }
 {
     match extension {
         ExtChange::Keep => keep_header(packet, out),
@@ -121,7 +123,8 @@ fn set_extension(packet: &[u8], profile: u16, words: &[u8], out: &mut [u8; 1500]
     requires whole { length words.now % 4 ≡ 0 }
     requires short { length words.now ≤ 120 }
     ensures within { result ≤ 1500 }
-    ensures header { (h : Header) (rest : List ℕ) → IsPacket h rest packet.now → IsPacket (with_extension (Some (profile, words.now)) h) [] (take result out.new) }
+    ensures header { (h : Header) (rest : List ℕ) → IsPacket h rest packet.now
+        → IsPacket (with_extension (Some (profile, words.now)) h) [] (take result out.new) }
 {
     let cut = drop_extension(packet, out);
     out[0] = with_extension_bit(out[0]);

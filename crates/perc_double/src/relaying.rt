@@ -35,7 +35,8 @@ pub fn relay(
     requires within { len ≤ 1500 }
     requires change { IsChange change.now }
     requires reads { (h : Header) × (octets : List ℕ) × (o : Ohb) × IsOpened h octets o (take len packet.old) × (h.ssrc ≡ tx.old.ssrc) }
-    ensures answer { (before : List ℕ) (h : Header) (octets : List ℕ) (o : Ohb) → StandsFor tx.old.window before → IsOpened h octets o (take len packet.old)
+    ensures answer { (before : List ℕ) (h : Header) (octets : List ℕ) (o : Ohb)
+        → StandsFor tx.old.window before → IsOpened h octets o (take len packet.old)
         → MatchResult (relay_place before h octets o change.now)
         (λ at. (result ≡ Ok (relayed_length h octets o change.now))
         × (take (relayed_length h octets o change.now) packet.new ≡ double outer.now at (relayed h change.now) octets (block_after h o change.now))
@@ -43,7 +44,8 @@ pub fn relay(
         (λ fault. (result ≡ Err fault) × (tx.new ≡ tx.old)) }
     ensures refused { OnErr result (tx.new ≡ tx.old) }
     // No index is sealed twice.
-    ensures next { (before : List ℕ) (h : Header) (octets : List ℕ) (o : Ohb) → StandsFor tx.old.window before → IsOpened h octets o (take len packet.old)
+    ensures next { (before : List ℕ) (h : Header) (octets : List ℕ) (o : Ohb)
+        → StandsFor tx.old.window before → IsOpened h octets o (take len packet.old)
         → IfOk result (λ _. (at : ℕ) × IsNext before (relayed h change.now).seq at) }
     // The relayed packet reads.
     ensures reads { (h : Header) (octets : List ℕ) (o : Ohb) → IsOpened h octets o (take len packet.old) → IsHeader (relayed h change.now) }
@@ -97,7 +99,8 @@ fn write_relayed(packet: &[u8], change: &Change<'_>, out: &mut [u8; 1500]) -> Op
     requires reads { (h : Header) × (octets : List ℕ) × (o : Ohb) × IsOpened h octets o packet.now }
     ensures { (h : Header) (octets : List ℕ) (o : Ohb) → IsOpened h octets o packet.now
         → MatchOption result (1500 < relayed_length h octets o change.now)
-        (λ n. (n + 16 ≤ 1500) × (n + 16 ≡ relayed_length h octets o change.now) × IsPacket (relayed h change.now) (opened octets (block_after h o change.now)) (take n out.new)) }
+        (λ n. (n + 16 ≤ 1500) × (n + 16 ≡ relayed_length h octets o change.now)
+        × IsPacket (relayed h change.now) (opened octets (block_after h o change.now)) (take n out.new)) }
 {
     let parts = change_parts(packet, change, out);
     put_body(parts.inner, &parts.ohb, out, parts.header_len)
@@ -116,7 +119,8 @@ fn change_parts<'a>(packet: &'a [u8], change: &Change<'_>, out: &mut [u8; 1500])
     requires few { length packet.now ≤ 1500 }
     requires change { IsChange change.now }
     requires reads { (h : Header) × (octets : List ℕ) × (o : Ohb) × IsOpened h octets o packet.now }
-    ensures header { (h : Header) (octets : List ℕ) (o : Ohb) → IsOpened h octets o packet.now → IsPacket (relayed h change.now) [] (take result.header_len out.new) }
+    ensures header { (h : Header) (octets : List ℕ) (o : Ohb) → IsOpened h octets o packet.now
+        → IsPacket (relayed h change.now) [] (take result.header_len out.new) }
     ensures inner { (h : Header) (octets : List ℕ) (o : Ohb) → IsOpened h octets o packet.now → result.inner.now ≡ octets }
     ensures block { (h : Header) (octets : List ℕ) (o : Ohb) → IsOpened h octets o packet.now → result.ohb ≡ block_after h o change.now }
     ensures within { (result.header_len ≤ 1500) × (length result.inner.now ≤ 1500) }

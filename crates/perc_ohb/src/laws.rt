@@ -41,7 +41,8 @@ pub fn one_reading()
 /// does every list of changes. The function does nothing.
 pub fn originals_put_back()
     ensures change { (h : Header) (o : Ohb) (c : Change) → restored (changed h c) (block_after h o c) ≡ restored h o }
-    ensures extension { (h : Header) (o : Ohb) (c : Change) (e : Option (ℕ × List ℕ)) → restored (with_extension e (changed h c)) (block_after h o c) ≡ restored h o }
+    ensures extension { (h : Header) (o : Ohb) (c : Change) (e : Option (ℕ × List ℕ))
+        → restored (with_extension e (changed h c)) (block_after h o c) ≡ restored h o }
     ensures changes { (h : Header) (o : Ohb) (cs : List Change) → restored (changed_by cs h o) (block_by cs h o) ≡ restored h o }
 {}
 

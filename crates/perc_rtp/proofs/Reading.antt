@@ -59,10 +59,14 @@ numbers_in xs long fits =
       c.1,
     )
 
-extension_in : (xs : List ℕ) (n : ℕ) → n ≡ big_number 2 (drop 2 xs) → 4 + 4 * n ≤ length xs → AreOctets xs
-    → (extension_octets (Some (big_number 2 xs, take (4 * n) (drop 4 xs))) ++ drop (4 + 4 * n) xs ≡ xs)
-    × IsExtension (big_number 2 xs, take (4 * n) (drop 4 xs))
-    × (length (extension_octets (Some (big_number 2 xs, take (4 * n) (drop 4 xs)))) ≡ 4 + 4 * n)
+-- the octets begin with an extension of n words, which stand at the front of r
+abbrev BeginsWith : List ℕ → ℕ → List ℕ → Type 0
+BeginsWith xs n r =
+    (extension_octets (Some (big_number 2 xs, take (4 * n) r)) ++ drop (4 + 4 * n) xs ≡ xs)
+    × IsExtension (big_number 2 xs, take (4 * n) r)
+    × (length (extension_octets (Some (big_number 2 xs, take (4 * n) r))) ≡ 4 + 4 * n)
+
+extension_in : (xs : List ℕ) (n : ℕ) → n ≡ big_number 2 (drop 2 xs) → 4 + 4 * n ≤ length xs → AreOctets xs → BeginsWith xs n (drop 4 xs)
 extension_in xs n is long fits =
     let a = two_spelled xs (omega arith) fits in
     let b = two_spelled (drop 2 xs) (omega (arith, length-drop 2 xs)) (AreOctets-drop 2 xs fits) in
@@ -119,9 +123,13 @@ two_tests false false n len e = (refl, cc)
 same_ok : (n len : ℕ) → ◌≡◌ {A = Result ℕ RtpFault} (Ok n) (Ok len) → n ≡ len
 same_ok n len e = cc
 
+-- the end of the header by the bit X, by the ends of the CSRCs and of the extension, and by how many octets there are
+abbrev end_by : Bool → ℕ → ℕ → ℕ → Result ℕ RtpFault
+end_by b cut end total = cond (not b) (Ok cut) (cond (ltb total (cut + 4)) (Err Extension) (cond (ltb total end) (Err Extension) (Ok end)))
+
 -- what follows the CSRCs
 extension_part : (b : Bool) (packet : List ℕ) (len : ℕ) → AreOctets packet → cut_len packet ≤ length packet
-    → cond (not b) (Ok (cut_len packet)) (cond (ltb (length packet) (cut_len packet + 4)) (Err Extension) (cond (ltb (length packet) (extension_end packet)) (Err Extension) (Ok (extension_end packet)))) ≡ Ok len
+    → end_by b (cut_len packet) (extension_end packet) (length packet) ≡ Ok len
     → (extension_octets (cond b (Some (extension_at packet)) None) ++ drop len packet ≡ drop (cut_len packet) packet)
     × IfSome (cond b (Some (extension_at packet)) None) IsExtension
     × (cut_len packet + length (extension_octets (cond b (Some (extension_at packet)) None)) ≡ len)
@@ -135,7 +143,7 @@ extension_part true packet len fits cut end =
     let q : List ℕ = drop (cut_len packet) packet in
     let is : n ≡ big_number 2 (drop 2 q) = ap (big_number 2) (sym (drop-drop 2 (cut_len packet) packet)) in
     let x = extension_in q n is (omega (arith, length-drop (cut_len packet) packet)) (AreOctets-drop (cut_len packet) packet fits) in
-    let y = subst (λ (r : List ℕ). (extension_octets (Some (big_number 2 q, take (4 * n) r)) ++ drop (4 + 4 * n) q ≡ q) × IsExtension (big_number 2 q, take (4 * n) r) × (length (extension_octets (Some (big_number 2 q, take (4 * n) r))) ≡ 4 + 4 * n)) (drop-drop 4 (cut_len packet) packet) x in
+    let y = subst (BeginsWith q n) (drop-drop 4 (cut_len packet) packet) x in
     let offset : cut_len packet + (4 + 4 * n) ≡ len = omega (arith, t.1) in
     let last : drop (4 + 4 * n) q ≡ drop len packet = drop-drop (4 + 4 * n) (cut_len packet) packet ∙ ap (λ (k : ℕ). drop k packet) offset in (
       ap (λ (r : List ℕ). extension_octets (Some (extension_at packet)) ++ r) (sym last) ∙ y.0,
@@ -212,7 +220,7 @@ extension_again (Some e) rest xs q r fits is is_q is_r =
 
 end_again : (o : Option (ℕ × List ℕ)) (b : Bool) (cut n total : ℕ) → b ≡ is_some o → IfSome o IsExtension → cut + length (extension_octets o) ≤ total
     → IfSome o (λ e. n ≡ length e.1 / 4)
-    → cond (not b) (Ok cut) (cond (ltb total (cut + 4)) (Err Extension) (cond (ltb total (cut + 4 + 4 * n)) (Err Extension) (Ok (cut + 4 + 4 * n)))) ≡ Ok (cut + length (extension_octets o))
+    → end_by b cut (cut + 4 + 4 * n) total ≡ Ok (cut + length (extension_octets o))
 end_again None b cut n total h fits within is = rw h (ap Ok (omega arith))
 end_again (Some e) b cut n total h fits within is =
     let four : 4 * n ≡ length e.1 = omega (arith, fits.whole, is) in
@@ -221,8 +229,27 @@ end_again (Some e) b cut n total h fits within is =
     let second : ltb total (cut + 4 + 4 * n) ≡ false = le-ltb total (cut + 4 + 4 * n) (omega arith) in
     rw (h, first, second) (ap Ok end)
 
-same_header : (g h : Header) → g.padding ≡ h.padding → g.marker ≡ h.marker → g.pt ≡ h.pt → g.seq ≡ h.seq → g.timestamp ≡ h.timestamp → g.ssrc ≡ h.ssrc → g.csrcs ≡ h.csrcs → g.extension ≡ h.extension → g ≡ h
-same_header g h a b c d e f k j = λ i. record { padding = a i; marker = b i; pt = c i; seq = d i; timestamp = e i; ssrc = f i; csrcs = k i; extension = j i }
+record SameFields (g h : Header) : Type 0 where
+  padding : g.padding ≡ h.padding
+  marker : g.marker ≡ h.marker
+  pt : g.pt ≡ h.pt
+  seq : g.seq ≡ h.seq
+  timestamp : g.timestamp ≡ h.timestamp
+  ssrc : g.ssrc ≡ h.ssrc
+  csrcs : g.csrcs ≡ h.csrcs
+  extension : g.extension ≡ h.extension
+
+same_header : (g h : Header) → SameFields g h → g ≡ h
+same_header g h s = λ i. record {
+  padding = s.padding i;
+  marker = s.marker i;
+  pt = s.pt i;
+  seq = s.seq i;
+  timestamp = s.timestamp i;
+  ssrc = s.ssrc i;
+  csrcs = s.csrcs i;
+  extension = s.extension i;
+}
 
 spelled_again : (h : Header) (rest : List ℕ) → IsHeader h → let packet = fixed_octets h ++ (flat_map (big_bytes 4) h.csrcs ++ (extension_octets h.extension ++ rest)) in
     Passes packet (12 + 4 * length h.csrcs + length (extension_octets h.extension)) × (header_at packet ≡ h)
@@ -245,52 +272,99 @@ spelled_again h rest is =
     let fours = fours_length h.csrcs in
     let total : length packet ≡ 12 + 4 * length h.csrcs + length extension + length rest = omega (arith, length-append csrcs (extension ++ rest), length-append extension rest, fours) in
     let cut : cut_len packet ≡ 12 + 4 * length h.csrcs = omega (arith, n) in
-    let after : drop (12 + 4 * length h.csrcs) packet ≡ extension ++ rest =
-    ap (drop (12 + 4 * length h.csrcs)) (sym (append_assoc (fixed_octets h) csrcs (extension ++ rest))) ∙ drop_at (fixed_octets h ++ csrcs) (extension ++ rest) (12 + 4 * length h.csrcs) (omega (arith, length-append (fixed_octets h) csrcs, fours)) in
+    let end : ℕ = 12 + 4 * length h.csrcs in
+    let front : length (fixed_octets h ++ csrcs) ≡ end = omega (arith, length-append (fixed_octets h) csrcs, fours) in
+    let after : drop end packet ≡ extension ++ rest =
+    ap (drop end) (sym (append_assoc (fixed_octets h) csrcs (extension ++ rest))) ∙ drop_at (fixed_octets h ++ csrcs) (extension ++ rest) end front in
     let q0 : drop (cut_len packet) packet ≡ extension ++ rest = ap (λ (k : ℕ). drop k packet) cut ∙ after in
     let q2 = sym (drop-drop 2 (cut_len packet) packet) in
     let q4 = sym (drop-drop 4 (cut_len packet) packet) in
     let e = extension_again h.extension rest (drop (cut_len packet) packet) (drop (cut_len packet + 2) packet) (drop (cut_len packet + 4) packet) is.extension q0 q2 q4 in
     let has : has_extension packet ≡ is_some h.extension = ap (λ (k : ℕ). eqb k 1) x ∙ test-bit (is_some h.extension) in
-    let read = some_or_none h.extension (has_extension packet) (extension_at packet) has (both_left (λ x. extension_at packet ≡ x) (λ x. big_number 2 (drop (cut_len packet + 2) packet) ≡ length x.1 / 4) h.extension e) in
-    let words = both_right (λ x. extension_at packet ≡ x) (λ x. big_number 2 (drop (cut_len packet + 2) packet) ≡ length x.1 / 4) h.extension e in
-    let end = end_again h.extension (has_extension packet) (cut_len packet) (big_number 2 (drop (cut_len packet + 2) packet)) (length packet) has is.extension (omega (arith, total, cut)) words in (
+    let n_words : ℕ = big_number 2 (drop (cut_len packet + 2) packet) in
+    let is_read = λ (x : ℕ × List ℕ). extension_at packet ≡ x in
+    let is_counted = λ (x : ℕ × List ℕ). n_words ≡ length x.1 / 4 in
+    let read = some_or_none h.extension (has_extension packet) (extension_at packet) has (both_left is_read is_counted h.extension e) in
+    let words = both_right is_read is_counted h.extension e in
+    let ends = end_again h.extension (has_extension packet) (cut_len packet) n_words (length packet) has is.extension (omega (arith, total, cut)) words in (
       record {
         fixed = omega (arith, total);
         two = v;
         csrcs = omega (arith, total, cut);
-        end = end ∙ ap (λ (k : ℕ). Ok (k + length extension)) cut;
+        end = ends ∙ ap (λ (k : ℕ). Ok (k + length extension)) cut;
       },
       same_header (header_at packet) h
-          (ap (λ (k : ℕ). eqb k 1) p ∙ test-bit h.padding)
-          (ap (λ (k : ℕ). eqb k 1) m ∙ test-bit h.marker)
-          t
-          (big_number-reads_back 2 h.seq (big_bytes 4 h.timestamp ++ (big_bytes 4 h.ssrc ++ (csrcs ++ (extension ++ rest)))) (omega (arith, is.seq)))
-          (big_number-reads_back 4 h.timestamp (big_bytes 4 h.ssrc ++ (csrcs ++ (extension ++ rest))) (omega (arith, is.timestamp)))
-          (big_number-reads_back 4 h.ssrc (csrcs ++ (extension ++ rest)) (omega (arith, is.ssrc)))
-          (ap (λ (k : ℕ). numbers k (csrcs ++ (extension ++ rest))) n ∙ numbers_again h.csrcs (extension ++ rest) is.csrcs)
-          read,
+          (record {
+            padding = ap (λ (k : ℕ). eqb k 1) p ∙ test-bit h.padding;
+            marker = ap (λ (k : ℕ). eqb k 1) m ∙ test-bit h.marker;
+            pt = t;
+            seq = big_number-reads_back 2 h.seq (big_bytes 4 h.timestamp ++ (big_bytes 4 h.ssrc ++ (csrcs ++ (extension ++ rest)))) (omega (arith, is.seq));
+            timestamp = big_number-reads_back 4 h.timestamp (big_bytes 4 h.ssrc ++ (csrcs ++ (extension ++ rest))) (omega (arith, is.timestamp));
+            ssrc = big_number-reads_back 4 h.ssrc (csrcs ++ (extension ++ rest)) (omega (arith, is.ssrc));
+            csrcs = ap (λ (k : ℕ). numbers k (csrcs ++ (extension ++ rest))) n ∙ numbers_again h.csrcs (extension ++ rest) is.csrcs;
+            extension = read;
+          }),
     )
+
+-- The octets pass the tests, and are read as this header.
+abbrev IsReadAs : Header → List ℕ → ℕ → Type 0
+IsReadAs h packet len = Passes packet len × (header_at packet ≡ h)
 
 pub packet_again : (h : Header) (rest packet : List ℕ) → IsPacket h rest packet → Passes packet (length (spelling h)) × (header_at packet ≡ h)
 unfolding spelling
 packet_again h rest packet is =
     let csrcs : List ℕ = flat_map (big_bytes 4) h.csrcs in
     let extension : List ℕ = extension_octets h.extension in
-    let regrouped : packet ≡ fixed_octets h ++ (csrcs ++ (extension ++ rest)) = is.octets ∙ append_assoc (fixed_octets h ++ csrcs) extension rest ∙ append_assoc (fixed_octets h) csrcs (extension ++ rest) in
-    let found = spelled_again h rest is.header in
-    subst (λ (w : List ℕ × ℕ). Passes w.0 w.1 × (header_at w.0 ≡ h)) (ap (λ (k : ℕ). (fixed_octets h ++ (csrcs ++ (extension ++ rest)), k)) (sym (spelling-length h)) ∙ ap (λ (w : List ℕ). (w, length (spelling h))) (sym regrouped)) found
+    let grouped : List ℕ = fixed_octets h ++ (csrcs ++ (extension ++ rest)) in
+    let regrouped : packet ≡ grouped = is.octets ∙ append_assoc (fixed_octets h ++ csrcs) extension rest ∙ append_assoc (fixed_octets h) csrcs (extension ++ rest) in
+    let at_len = subst (λ (k : ℕ). IsReadAs h grouped k) (sym (spelling-length h)) (spelled_again h rest is.header) in
+    subst (λ (xs : List ℕ). IsReadAs h xs (length (spelling h))) (sym regrouped) at_len
 
 -- ---- what a reader tells
 
-same_head : (a b : RtpHead) → a.padding ≡ b.padding → a.extension ≡ b.extension → a.csrcs ≡ b.csrcs → a.marker ≡ b.marker → a.pt ≡ b.pt → a.seq ≡ b.seq → a.timestamp ≡ b.timestamp → a.ssrc ≡ b.ssrc → a.cut ≡ b.cut → a.len ≡ b.len → a ≡ b
-same_head a b e0 e1 e2 e3 e4 e5 e6 e7 e8 e9 = λ i. record { padding = e0 i; extension = e1 i; csrcs = e2 i; marker = e3 i; pt = e4 i; seq = e5 i; timestamp = e6 i; ssrc = e7 i; cut = e8 i; len = e9 i }
+record SameHead (a b : RtpHead) : Type 0 where
+  padding : a.padding ≡ b.padding
+  extension : a.extension ≡ b.extension
+  csrcs : a.csrcs ≡ b.csrcs
+  marker : a.marker ≡ b.marker
+  pt : a.pt ≡ b.pt
+  seq : a.seq ≡ b.seq
+  timestamp : a.timestamp ≡ b.timestamp
+  ssrc : a.ssrc ≡ b.ssrc
+  cut : a.cut ≡ b.cut
+  len : a.len ≡ b.len
+
+same_head : (a b : RtpHead) → SameHead a b → a ≡ b
+same_head a b s = λ i. record {
+  padding = s.padding i;
+  extension = s.extension i;
+  csrcs = s.csrcs i;
+  marker = s.marker i;
+  pt = s.pt i;
+  seq = s.seq i;
+  timestamp = s.timestamp i;
+  ssrc = s.ssrc i;
+  cut = s.cut i;
+  len = s.len i;
+}
 
 pub head_is : (packet : List ℕ) (len : ℕ) → length (spelling (header_at packet)) ≡ len → head_at packet len ≡ head_of (header_at packet)
 unfolding header_at
 head_is packet len e =
     let count = sym (numbers-length (get_or packet 0 0 % 16) (drop 12 packet)) in
-    same_head (head_at packet len) (head_of (header_at packet)) refl (sym (is_some-cond (has_extension packet) (extension_at packet))) count refl refl refl refl refl (ap (λ (k : ℕ). 12 + 4 * k) count) (sym e)
+    same_head (head_at packet len) (head_of (header_at packet))
+    (record {
+      padding = refl;
+      extension = sym (is_some-cond (has_extension packet) (extension_at packet));
+      csrcs = count;
+      marker = refl;
+      pt = refl;
+      seq = refl;
+      timestamp = refl;
+      ssrc = refl;
+      cut = ap (λ (k : ℕ). 12 + 4 * k) count;
+      len = sym e;
+    })
 
 three_tests : (a b c : Bool) (n m : ℕ) → cond a (Err Short) (cond (not b) (Err Version) (cond c (Err Short) (Ok n))) ≡ Ok m → (a ≡ false) × (b ≡ true) × (c ≡ false)
 three_tests true b c n m e = cc

@@ -1,7 +1,7 @@
 -- Octets that are written one part after the other.
-use Rattle.std.proofs.Common.{◌≡◌, ℕ, None, zero, suc, replicate, ◌+◌, ◌-◌, ◌*◌, ◌<◌, ◌≤◌, List, [], ◌∷◌, ◌++◌, length, take, drop, get_or, refl, sym, ap, ◌∙◌, append_assoc, arith}
+use Rattle.std.proofs.Common.{◌≡◌, ℕ, None, zero, suc, replicate, ◌+◌, ◌-◌, ◌*◌, ◌<◌, ◌≤◌, List, [], ◌∷◌, ◌++◌, length, take, drop, get_or, set, refl, sym, ap, ◌∙◌, append_assoc, arith}
 use Rattle.std.specs.List.{flat_map}
-use Rattle.std.proofs.lemmas.List.{append-nil, take_at, drop_at, take_rest, drop_all, drop-drop, take_more, length-append, length-drop, length-take-le, length-replicate}
+use Rattle.std.proofs.lemmas.List.{append-nil, take_at, drop_at, take_rest, drop_all, drop_more, drop-drop, set_at, take_more, length-append, length-drop, length-take-le, length-replicate}
 use Rattle.std.proofs.lemmas.Grind.{flat_map-append}
 use Rattle.std.proofs.lemmas.Bool.Decides.{nat_tests}
 use borrow.Rule.Slice.PartMut.{put_mid, mid_of}
@@ -64,3 +64,16 @@ parts_are h payload padding = append_assoc (fixed_octets h ++ flat_map (big_byte
 -- what fits a packet without a fault
 pub fits_without_fault : (c : Content) → media_fault c ≡ None → (length c.csrcs ≤ 15) × (length c.payload + c.pad ≤ 1200)
 fits_without_fault c e = grind (arith, nat_tests)
+
+-- zeros, and the count of the padding behind them, written to the front of a list
+pub padding_put : (zeros out : List ℕ) (n pad : ℕ) → zeros ≡ replicate n 0 → pad ≡ suc n → pad ≤ length out → set (zeros ++ drop n out) n pad ≡ padding_octets pad ++ drop pad out
+padding_put zeros out n pad zeros_is pad_is fits =
+    let next : drop n out ≡ get_or out n 0 ∷ drop (n + 1) out = drop_more out n 0 (omega arith) in
+    let one : n + 1 ≡ suc n = omega arith in
+    let rest : drop (n + 1) out ≡ drop (suc n) out = ap (λ (k : ℕ). drop k out) one in
+    let front : zeros ++ drop n out ≡ replicate n 0 ++ (get_or out n 0 ∷ drop (suc n) out) = (λ i. zeros_is i ++ next i) ∙ ap (λ (xs : List ℕ). replicate n 0 ++ (get_or out n 0 ∷ xs)) rest in
+    ap (λ (xs : List ℕ). set xs n pad) front
+    ∙ set_at (replicate n 0) (get_or out n 0) (drop (suc n) out) pad n (length-replicate n 0)
+    ∙ sym (append_assoc (replicate n 0) (pad ∷ []) (drop (suc n) out))
+    ∙ (λ i. (replicate n 0 ++ pad_is i ∷ []) ++ drop (suc n) out)
+    ∙ ap (λ (k : ℕ). padding_octets k ++ drop k out) (sym pad_is)

@@ -16,7 +16,7 @@ returns-clause-len c = omega (arith, length-spelling nothing_kept)
 pub returns-clause-sealed : goal.returns-clause-sealed
 returns-clause-sealed c = λ h body is.
     c.put_block.ensures.written
-    ∙ inner_put c.seal_text-tag.new.packet c.copy_from_slice.new.self c.args.packet.now (spelling h) (inner c.args.inner.now c.args.index h body) (block.spelling nothing_kept) _ c.args.len c.put_block.result
+    ∙ inner_put c.seal_text-tag.new.packet _ c.args.packet.now (spelling h) (inner c.args.inner.now c.args.index h body) (block.spelling nothing_kept) _ c.args.len c.put_block.result
     (record {
       text_long = omega (arith, length-take c.args.len c.args.packet.now);
       end_long = omega (arith, ap length c.copy_from_slice.ensures.after);
