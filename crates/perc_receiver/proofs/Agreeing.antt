@@ -1,20 +1,17 @@
 -- What the ciphers answer to a datagram that isn't foreign, the table answers.
-use Rattle.std.proofs.Common.{◌≡◌, ℕ, ◌+◌, ◌<◌, Bool, true, false, cond, not, ◌&&◌, ◌||◌, List, [], ◌∷◌, length, Option, Some, None, Result, Ok, Err, inl, inr, refl, ap, ◌∙◌, sym, subst, arith}
-use Rattle.std.specs.Prelude.{nat_lt, ◌==◌, All, Contains, find, is_some, is_none, MatchOption, IfSome}
+use Rattle.std.proofs.Common.{◌≡◌, ℕ, ◌<◌, Bool, true, false, cond, ◌&&◌, List, [], ◌∷◌, length, Option, Some, None, Result, Ok, Err, inl, inr, refl, ap, ◌∙◌, sym, subst, arith}
+use Rattle.std.specs.Prelude.{nat_lt, ◌==◌, is_some, is_none}
 use Rattle.std.specs.List.{AllByRecursion, list_any, cons_option}
 use Rattle.std.specs.Option.{option_map}
 use Rattle.std.proofs.lemmas.Bool.{or_parts}
 use Rattle.std.proofs.lemmas.Option.{MatchOption-at_some}
 use Rattle.std.proofs.lemmas.List.Elements.{All-contains}
 use Rattle.perc_aes.specs.Cipher.{IsKey}
-use Rattle.perc_kdf.specs.Derivation.{session_keys}
-use Rattle.perc_kdf.specs.declared.Kind.TheVariants.{Srtp}
 use Rattle.perc_rtp.specs.Header.{Header}
 use Rattle.perc_srtp.specs.Sealed.{sealed_body, unsealed_body}
 use Rattle.perc_srtp.proofs.PacketLaws.{sealed_opens}
-use Rattle.perc_keywrap.specs.Wrap.{wrapped}
 use Rattle.perc_ekt.specs.Field.{Field, Short, Full, Extension}
-use Rattle.perc_ekt.specs.Key.{HasSize, WrappedKey, opened_key, plain_text}
+use Rattle.perc_ekt.specs.Key.{HasSize, WrappedKey, opened_key}
 use Rattle.perc_ekt.specs.declared.key.KeyFault.{KeyFault}
 use Rattle.perc_ekt.specs.declared.key.KeyFault.TheVariants.{Unwrap, Plain}
 use Rattle.perc_ekt.proofs.Keys.{opens}
@@ -27,11 +24,11 @@ use Rattle.perc_receiver.specs.declared.refusal.Refusal.{Refusal}
 use Rattle.perc_receiver.specs.declared.refusal.Refusal.TheVariants as refusal
 use Rattle.perc_receiver.specs.Table.{IsRight, IsRightRow, IsRightWrap, IsSealedUnder, IsSecret, IsWrappedUnder, Row, Secret, Table, Wrap, body_of, inner_keys, secret_of}
 use Rattle.perc_receiver.specs.Opener.{Opener, by_cipher, by_table, body_under, is_row, is_wrap, key_under, row_of, told_wrap, wrap_of}
-use Rattle.perc_receiver.specs.Receiver.{Accepted, OpenTry, Receiver, carried_by, carried_key, decided, heard, heard_reach, ideal, judged, judged_carried, judged_open, judged_tries, live_of, opening, openings, outcome, reach_of, settled, some_tries}
+use Rattle.perc_receiver.specs.Receiver.{Accepted, OpenTry, Receiver, carried_by, carried_key, decided, heard, heard_reach, ideal, judged, judged_carried, judged_open, judged_tries, live_of, openings, outcome, reach_of, settled, some_tries}
 use Rattle.perc_receiver.specs.Foreign.{is_foreign, is_foreign_key, is_foreign_opened, is_foreign_reach, is_foreign_try, tries_or_none, tries_reached, tries_with, unwraps}
 use Rattle.perc_receiver.specs.Calls.{IsHolding}
 use Rattle.perc_receiver.proofs.Headers.{is_row-parts, is_wrap-parts}
-use Rattle.perc_receiver.proofs.Secrets.{IsHeld, held_secret}
+use Rattle.perc_receiver.proofs.Secrets.{held_secret}
 use Rattle.perc_receiver.proofs.Tried.{IsLiveKey, IsTriedUnder, all_tried, tried_live}
 
 -- ---- two openers that agree on what is asked
@@ -111,9 +108,9 @@ key_by issued table s spi octets (Some w) secret found right e known =
     wrap_opens issued s spi octets w secret found (All-contains (IsRightWrap issued) table.wraps w right.wraps it.0) parts.0 parts.1
 key_by issued table s spi octets None secret found right e known =
     unwraps_not (opened_key s.key (length s.key) octets) (both (unwraps (opened_key s.key (length s.key) octets)) known) where
-  both : (b : Bool) → (b && true) ≡ false → b ≡ false
-  both true h = h
-  both false h = refl
+      both : (b : Bool) → (b && true) ≡ false → b ≡ false
+      both true h = h
+      both false h = refl
 
 -- What a wrapped key under a live SPI opens to, the table tells, where it isn't foreign.
 pub key_agrees : (issued : List Secret) (table : Table) (r : Receiver) (spi : ℕ) (octets : List ℕ) → IsHolding issued r → IsRight issued table
@@ -125,13 +122,13 @@ key_agrees issued table r spi octets holds right live known =
     let is : key_under (secret_of r.secrets spi) octets ≡ opened_key s.key (length s.key) octets = ap (λ (o : Option Secret). key_under o octets) held.1.held_is in
     is
     ∙ key_by issued table s spi octets (wrap_of table spi octets) held.1.right held.1.issued_is right refl
-      (subst (λ (x : Result WrappedKey KeyFault). (unwraps x && is_none (wrap_of table spi octets)) ≡ false) is known)
+    (subst (λ (x : Result WrappedKey KeyFault). (unwraps x && is_none (wrap_of table spi octets)) ≡ false) is known)
 
 full_agrees : (issued : List Secret) (table : Table) (r : Receiver) (ssrc spi : ℕ) (octets : List ℕ) (live : Bool) → IsHolding issued r → IsRight issued table
     → is_live (live_of r.secrets) spi ≡ live
     → (live && unwraps ((by_cipher r.secrets).wrapped_key spi octets) && is_none (wrap_of table spi octets)) ≡ false
     → ◌≡◌ {A = Result (Option Carried) Refusal} (cond live (carried_key spi ssrc ((by_cipher r.secrets).wrapped_key spi octets)) (Err (refusal.SpiUnknown spi)))
-      (cond live (carried_key spi ssrc ((by_table table).wrapped_key spi octets)) (Err (refusal.SpiUnknown spi)))
+    (cond live (carried_key spi ssrc ((by_table table).wrapped_key spi octets)) (Err (refusal.SpiUnknown spi)))
 full_agrees issued table r ssrc spi octets false holds right e known = refl
 full_agrees issued table r ssrc spi octets true holds right e known = ap (carried_key spi ssrc) (key_agrees issued table r spi octets holds right e known)
 
@@ -179,7 +176,7 @@ body_agrees issued table r h octets a holds right live known =
     ap (λ (o : Option Secret). body_under o a.context a.index h octets) held.1.held_is in
     is
     ∙ body_by issued table s a.context a.index h octets (row_of table a.context a.index h octets) held.1.issued_is right refl
-      (subst (λ (x : Option (List ℕ)). (is_some x && is_none (row_of table a.context a.index h octets)) ≡ false) is known)
+    (subst (λ (x : Option (List ℕ)). (is_some x && is_none (row_of table a.context a.index h octets)) ≡ false) is known)
 
 bodies_agree : (issued : List Secret) (table : Table) (r : Receiver) (h : Header) (octets : List ℕ) (carried : Option Carried) (attempts : List Attempt)
     → IsHolding issued r → IsRight issued table → IsLiveKey (live_of r.secrets) carried → AllByRecursion (IsTriedUnder r.contexts h.ssrc carried) attempts

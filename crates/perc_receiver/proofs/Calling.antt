@@ -1,16 +1,15 @@
 -- Each call keeps that a receiver's contexts agree with what it accepted, and that it holds issued secrets.
-use Rattle.std.proofs.Common.{◌≡◌, ℕ, ◌+◌, ◌-◌, ◌<◌, ◌≤◌, Bool, true, false, List, [], ◌∷◌, ◌++◌, length, map, drop, get_or, Option, Some, None, Result, Ok, Err, refl, ap, ◌∙◌, sym, subst, arith}
-use Rattle.std.specs.Prelude.{All, Contains, find, IsTrue, MatchOption}
+use Rattle.std.proofs.Common.{◌≡◌, ℕ, ◌+◌, ◌-◌, List, [], ◌∷◌, ◌++◌, length, drop, Option, Some, Result, Ok, Err, refl, ap, ◌∙◌, sym, subst}
 use Rattle.std.proofs.lemmas.List.{drop-map, length-map, map-append}
 use Rattle.perc_contexts.specs.declared.SpiOld.{SpiOld}
-use Rattle.perc_contexts.specs.Receiving.{Attempt, Receiving, committed, is_live, live_spis, renewed, spi_answer, still_live}
-use Rattle.perc_contexts.specs.History.{Acceptance, Commit, IsCall, IsHistory, Renew, acceptance_of, after_renewal}
+use Rattle.perc_contexts.specs.Receiving.{Receiving, committed, renewed, spi_answer, still_live}
+use Rattle.perc_contexts.specs.History.{Commit, IsHistory, Renew, after_renewal}
 use Rattle.perc_contexts.proofs.Histories as histories
-use Rattle.perc_outer.specs.Datagram.{Opened, Reach, streams_after}
+use Rattle.perc_outer.specs.Datagram.{Opened}
 use Rattle.perc_receiver.specs.declared.refusal.Refusal.{Refusal}
 use Rattle.perc_receiver.specs.Table.{Secret}
 use Rattle.perc_receiver.specs.Opener.{Opener, by_cipher}
-use Rattle.perc_receiver.specs.Receiver.{Accepted, Receiver, granted, heard, heard_reach, live_of, outcome, reach_of, receiving, settled}
+use Rattle.perc_receiver.specs.Receiver.{Accepted, Receiver, granted, heard, heard_reach, live_of, reach_of, receiving, settled}
 use Rattle.perc_receiver.specs.Calls.{Call, Grant, Hear, IsConsistent, acceptances, accepts, after_call, after_grant, with_answer}
 use Rattle.perc_receiver.proofs.Tried.{carrying, may_commit}
 use Rattle.perc_receiver.proofs.Taken.{IsTaken, heard_taken, taken_live, taken_tried}

@@ -1,35 +1,32 @@
 -- A genuine packet is accepted.
-use Rattle.std.proofs.Common.{◌≡◌, ℕ, ◌+◌, ◌*◌, ◌/◌, ◌%◌, ◌<◌, ◌≤◌, zero, suc, Bool, true, false, cond, not, ◌||◌, List, [], ◌∷◌, ◌++◌, length, get_or, Option, Some, None, Result, Ok, Err, inl, inr, refl, ap, ◌∙◌, sym, subst, arith}
-use Rattle.std.specs.Prelude.{◌==◌, nat_lt, All, Contains, find, is_some, MatchOption}
+use Rattle.std.proofs.Common.{◌≡◌, ℕ, ◌+◌, ◌*◌, ◌/◌, ◌%◌, ◌<◌, ◌≤◌, zero, suc, Bool, true, false, not, ◌||◌, List, [], ◌∷◌, length, get_or, Option, Some, None, Result, Ok, Err, refl, ap, ◌∙◌, sym, subst, arith}
+use Rattle.std.specs.Prelude.{nat_lt, Contains, find, is_some, MatchOption}
 use Rattle.std.specs.List.{filter_map, cons_option}
 use Rattle.std.specs.Option.{option_map, option_map_or}
 use Rattle.std.proofs.lemmas.Bool.{cond-false, eq-eqb, le-ltb}
 use Rattle.std.proofs.lemmas.List.Elements.{All-contains}
 use Rattle.perc_window.specs.Index.{nearest}
 use Rattle.perc_window.specs.Replay.{freshness, greatest}
-use Rattle.perc_window.specs.declared.window.Freshness.{Freshness}
 use Rattle.perc_window.specs.declared.window.Freshness.TheVariants.{Fresh}
 use Rattle.perc_rtp.specs.Header.{Header}
 use Rattle.perc_rtp.specs.Padding.{payload_of}
 use Rattle.perc_srtp.proofs.PacketLaws.{length-sealed_body}
 use Rattle.perc_ekt.specs.Field.{Field, Short, Full, Extension}
-use Rattle.perc_contexts.specs.Receiving.{Attempt, Carried, Context, at_nearest, attempt_at, carried_context, context_of, freshness_of, is_full, is_live, is_of, new_context, newest_of, tries}
+use Rattle.perc_contexts.specs.Receiving.{Attempt, Carried, Context, at_nearest, attempt_at, carried_context, context_of, is_full, is_live, is_of, new_context, newest_of, tries}
 use Rattle.perc_contexts.specs.declared.KeyLimit.{KeyLimit}
 use Rattle.perc_contexts.proofs.Names.{is_of-parts}
 use Rattle.perc_contexts.proofs.ReceivingLaws.{found_of}
 use Rattle.perc_outer.specs.Datagram as outer
 use Rattle.perc_outer.specs.Datagram.{Opened, original_header}
-use Rattle.perc_receiver.specs.declared.refusal.Refusal.{Refusal}
 use Rattle.perc_receiver.specs.declared.refusal.Refusal.TheVariants as refusal
 use Rattle.perc_receiver.specs.Table.{IsRight, IsRightRow, IsSealedUnder, Row, Secret, Table, Wrap, body_of, inner_keys, secret_of}
-use Rattle.perc_receiver.specs.Opener.{Opener, by_table, is_row, is_wrap, row_of, told_wrap, wrap_of}
-use Rattle.perc_receiver.specs.Receiver.{Accepted, OpenTry, Receiver, carried_by, carried_key, decided, heard, heard_reach, ideal, is_fresh, judged, judged_carried, judged_open, judged_tries, live_of, opening, openings, reach_of, some_tries, without_padding}
-use Rattle.perc_receiver.specs.Calls.{IsAcceptedAs, IsAlone, IsCarried, IsGenuine, IsKeyKnown, IsRow, IsSent, IsTried, IsWrapFor, accepted_under}
+use Rattle.perc_receiver.specs.Opener.{Opener, by_table, is_row, is_wrap, wrap_of}
+use Rattle.perc_receiver.specs.Receiver.{Accepted, OpenTry, Receiver, carried_by, heard, heard_reach, ideal, is_fresh, judged, judged_carried, judged_open, judged_tries, live_of, opening, openings, reach_of, some_tries, without_padding}
+use Rattle.perc_receiver.specs.Calls.{IsAcceptedAs, IsCarried, IsGenuine, IsKeyKnown, IsRow, IsTried, IsWrapFor, accepted_under}
 use Rattle.perc_receiver.proofs.Headers.{IsRowOf, is_row-made, is_wrap-parts}
 use Rattle.perc_receiver.proofs.Secrets.{some_found}
 use Rattle.perc_receiver.proofs.Tried.{context_held, context_new, tries_carried, tries_nearest, tries_under}
-use Rattle.perc_receiver.proofs.Agreeing.{key_told}
-use Rattle.perc_receiver.proofs.Taken.{IsOpening, decided_some, is_opening, judged_taken, opens_fresh, opens_row, row_payload, taken_row}
+use Rattle.perc_receiver.proofs.Taken.{decided_some, is_opening, judged_taken, opens_fresh, opens_row, row_payload, taken_row}
 
 -- ---- one of a list, and what becomes of it
 
@@ -94,7 +91,7 @@ ready_newest issued table r o row c is none fresh known =
       carries = none;
       tries_are = tries_nearest r.contexts o.header.ssrc (original_header o).seq;
       tried = contains_mapped (attempt_at (original_header o).seq) (newest_of r.contexts o.header.ssrc) c (record { context = c; index = row.index }) newest
-        (ap (option_map (λ (index : ℕ). record { context = c; index = index })) at);
+          (ap (option_map (λ (index : ℕ). record { context = c; index = index })) at);
       spi = sym parts.0;
       ssrc = sym parts.1;
       key = sym parts.2;

@@ -1,23 +1,22 @@
 -- Over any calls: what is accepted was sent, and once.
-use Rattle.std.proofs.Common.{◌≡◌, ◌≢◌, ◌⊎◌, ℕ, ◌+◌, ◌-◌, ◌<◌, ◌≤◌, Bool, true, false, cond, List, [], ◌∷◌, ◌++◌, length, map, drop, get_or, Option, Some, None, Result, Ok, Err, inl, inr, refl, ap, ◌∙◌, sym, subst, arith}
-use Rattle.std.specs.Prelude.{◌==◌, nat_le, All, AllPairs, Contains, find, IsTrue, MatchOption}
+use Rattle.std.proofs.Common.{◌≡◌, ℕ, ◌+◌, ◌-◌, ◌<◌, ◌≤◌, Bool, true, false, List, [], ◌∷◌, ◌++◌, length, map, drop, get_or, Option, Some, None, Result, Ok, Err, inl, inr, refl, ap, ◌∙◌, sym, subst, arith}
+use Rattle.std.specs.Prelude.{◌==◌, nat_le, All, AllPairs, Contains, MatchOption}
 use Rattle.std.specs.Option.{option_or}
 use Rattle.std.specs.List.{AllByRecursion}
-use Rattle.std.specs.List.Sorted.{IsStrictlyIncreasing}
 use Rattle.std.proofs.lemmas.Bool.{cases_order, eq-eqb, leb-false, ne_eqb}
 use Rattle.std.proofs.lemmas.List.{append-nil, append_assoc, get_or-map, get_or_default, length-map}
 use Rattle.std.proofs.lemmas.List.Elements.{All-cons, All-drop, All-from_recursion, All-nil, All-push, All-weaker, recursion_from_All}
 use Rattle.std.proofs.lemmas.List.Folds.{find-append}
 use Rattle.perc_kdf.specs.Derivation.{KeyAndSalt}
 use Rattle.perc_contexts.specs.declared.SpiOld.{SpiOld}
-use Rattle.perc_contexts.specs.Receiving.{Receiving, is_live, latest, nothing_held, retired, spi_answer, still_live}
+use Rattle.perc_contexts.specs.Receiving.{Receiving, latest, nothing_held, spi_answer, still_live}
 use Rattle.perc_contexts.specs.History.{Acceptance, IsHistory, Renew, acceptance_of}
 use Rattle.perc_contexts.proofs.Histories as histories
 use Rattle.perc_contexts.proofs.LiveLaws.{last_push}
 use Rattle.perc_receiver.specs.declared.refusal.Refusal.{Refusal}
 use Rattle.perc_receiver.specs.Table.{AreOtherRows, AreSecrets, IsRight, IsSecret, Row, Secret, Table, secret_of}
-use Rattle.perc_receiver.specs.Opener.{by_cipher}
-use Rattle.perc_receiver.specs.Receiver.{Accepted, Receiver, granted, ideal, live_of, outcome, receiving}
+use Rattle.perc_receiver.specs.Opener.{Opener, by_cipher}
+use Rattle.perc_receiver.specs.Receiver.{Accepted, Receiver, granted, heard, ideal, live_of, outcome, receiving}
 use Rattle.perc_receiver.specs.Foreign.{is_foreign}
 use Rattle.perc_receiver.specs.Calls.{AcceptedOnce, AreCalls, AreOthers, Call, Grant, Hear, IsConsistent, IsHolding, IsRow, IsSent, acceptances, accepts, after_call, after_grant, secrets_of, started, with_answer, with_grant}
 use Rattle.perc_receiver.proofs.Agreeing.{outcome_is_ideal}
@@ -50,9 +49,33 @@ pub holding_more : (issued more : List Secret) (r : Receiver) → IsHolding issu
 holding_more issued more r h = record {
   secrets = h.secrets;
   known = All-weaker (λ (s : Secret). secret_of issued s.spi ≡ Some s) (λ (s : Secret). secret_of (issued ++ more) s.spi ≡ Some s)
-    (λ s e. secret_more issued more s.spi s e) r.secrets h.known;
+      (λ s e. secret_more issued more s.spi s e) r.secrets h.known;
   live = h.live;
 }
+
+-- A receiver that is granted an issued secret holds issued ones, where its contexts agree with what it accepted;
+pub granted_holding : (issued : List Secret) (r : Receiver) (s : Secret) (done : List Accepted) → IsHolding issued r → IsSecret s → secret_of issued s.spi ≡ Some s
+    → IsConsistent (granted s r) done → IsHolding issued (granted s r)
+granted_holding issued r s done h right known consistent =
+    let n : ℕ = length r.secrets + 1 - 4 in
+    let test = λ (t : Secret). secret_of issued t.spi ≡ Some t in record {
+      secrets = record {
+        right = All-push IsSecret (drop n r.secrets) s (All-drop IsSecret n r.secrets h.secrets.right) right;
+        rising = consistent.rising;
+      };
+      known = All-push test (drop n r.secrets) s (All-drop test n r.secrets h.known) known;
+      live = consistent.live;
+    }
+
+-- and so does one that heard a datagram, whoever answers.
+pub heard_holding : (f : Opener) (issued : List Secret) (r : Receiver) (datagram : List ℕ) (done : List Accepted) → IsHolding issued r
+    → IsConsistent (heard f r datagram).1 done → IsHolding issued (heard f r datagram).1
+heard_holding f issued r datagram done h consistent =
+    let secrets : r.secrets ≡ (heard f r datagram).1.secrets = sym (heard_secrets f r datagram) in record {
+      secrets = subst AreSecrets secrets h.secrets;
+      known = subst (λ (held : List Secret). All (λ (s : Secret). secret_of issued s.spi ≡ Some s) held) secrets h.known;
+      live = consistent.live;
+    }
 
 -- ---- what is always so
 
@@ -91,22 +114,12 @@ grant_by : (issued : List Secret) (table : Table) (r : Receiver) (s : Secret) (d
     → IsSound (with_grant s answer issued) table (after_grant r s answer) done
 grant_by issued table r s done (Err old) sound right e consistent = sound
 grant_by issued table r s done (Ok retires) sound right e consistent =
-    let n : ℕ = length r.secrets + 1 - 4 in
     let below = all_below (live_of r.secrets) s.spi retires issued e (recursion_from_All (IsPast (live_of r.secrets)) issued sound.past) in
     let last : latest (live_of (granted s r).secrets) ≡ Some s.spi = ap latest (granted_live s r) ∙ last_push None (still_live (live_of r.secrets)) s.spi in
-    let itself : IsPast (live_of (granted s r).secrets) s = rw last (omega arith) in
-    let holds = holding_more issued (s ∷ []) r sound.holding in record {
-      holding = record {
-        secrets = record {
-          right = All-push IsSecret (drop n r.secrets) s (All-drop IsSecret n r.secrets sound.holding.secrets.right) right;
-          rising = consistent.rising;
-        };
-        known = All-push (λ (t : Secret). secret_of (issued ++ s ∷ []) t.spi ≡ Some t) (drop n r.secrets) s
-          (All-drop (λ (t : Secret). secret_of (issued ++ s ∷ []) t.spi ≡ Some t) n r.secrets holds.known) (secret_new issued s below);
-        live = consistent.live;
-      };
+    let itself : IsPast (live_of (granted s r).secrets) s = rw last (omega arith) in record {
+      holding = granted_holding (issued ++ s ∷ []) r s done (holding_more issued (s ∷ []) r sound.holding) right (secret_new issued s below) consistent;
       past = All-push (IsPast (live_of (granted s r).secrets)) issued s
-        (All-from_recursion (IsPast (live_of (granted s r).secrets)) issued (past_all issued (live_of (granted s r).secrets) s.spi last below)) itself;
+          (All-from_recursion (IsPast (live_of (granted s r).secrets)) issued (past_all issued (live_of (granted s r).secrets) s.spi last below)) itself;
       consistent = consistent;
       sent = sound.sent;
     }
@@ -133,15 +146,21 @@ hear_sound issued more table r datagram done sound right known =
     let answer : (outcome r datagram).0 ≡ (ideal table r datagram).0 = ap (λ (x : Result Accepted Refusal × Receiver). x.0) same in
     let secrets : r.secrets ≡ (outcome r datagram).1.secrets = sym (heard_secrets (by_cipher r.secrets) r datagram) in
     let consistent = each_call r (Hear datagram) done sound.consistent in record {
-      holding = record {
-        secrets = subst AreSecrets secrets sound.holding.secrets;
-        known = subst (λ (held : List Secret). All (λ (s : Secret). secret_of issued s.spi ≡ Some s) held) secrets sound.holding.known;
-        live = consistent.live;
-      };
+      holding = heard_holding (by_cipher r.secrets) issued r datagram (with_answer (outcome r datagram).0 done) sound.holding consistent;
       past = subst (λ (held : List Secret). All (IsPast (live_of held)) issued) secrets sound.past;
       consistent = consistent;
       sent = sent_by table done (outcome r datagram).0 (λ a e. ideal_sent (issued ++ more) table r datagram a right (sym answer ∙ e)) sound.sent;
     }
+
+-- More rows may be sent.
+pub sound_table : (issued : List Secret) (table next : Table) (r : Receiver) (done : List Accepted)
+    → ((row : Row) → Contains table.rows row → Contains next.rows row) → IsSound issued table r done → IsSound issued next r done
+sound_table issued table next r done stays sound = record {
+  holding = sound.holding;
+  past = sound.past;
+  consistent = sound.consistent;
+  sent = All-weaker (IsSent table) (IsSent next) (λ a sent. (sent.0, stays sent.0 sent.1, sent.2)) done sound.sent;
+}
 
 -- ---- accepted once
 

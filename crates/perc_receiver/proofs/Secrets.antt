@@ -1,7 +1,6 @@
 -- Secrets that are found by their SPIs: those that a receiver holds were issued.
-use Rattle.std.proofs.Common.{◌≡◌, ℕ, ◌<◌, zero, suc, Bool, true, false, cond, ◌||◌, List, [], ◌∷◌, ◌++◌, length, get_or, map, Option, Some, None, inl, inr, refl, ap, ◌∙◌, sym, subst, arith}
-use Rattle.std.specs.Prelude.{◌==◌, All, Contains, find}
-use Rattle.std.specs.List.{list_any}
+use Rattle.std.proofs.Common.{◌≡◌, ℕ, ◌<◌, zero, suc, Bool, true, false, ◌||◌, List, [], ◌∷◌, length, get_or, Some, refl, ap, ◌∙◌, subst, arith}
+use Rattle.std.specs.Prelude.{◌==◌, Contains, find}
 use Rattle.std.proofs.lemmas.Bool.{eqb-true}
 use Rattle.std.proofs.lemmas.List.Elements.{All-contains}
 use Rattle.perc_contexts.specs.Receiving.{is_live}
@@ -51,8 +50,7 @@ held_secret issued r spi holds live =
     let found = live_secret r.secrets spi live in
     let s : Secret = found.0 in
     let it = found_of (λ (t : Secret). t.spi == spi) r.secrets s found.1 in
-    let same : s.spi ≡ spi = eqb-true s.spi spi it.1 in
-    (
+    let same : s.spi ≡ spi = eqb-true s.spi spi it.1 in (
       s,
       record {
         held_is = found.1;

@@ -1,17 +1,15 @@
 -- What is accepted, by any opener; by the table it is a row.
-use Rattle.std.proofs.Common.{◌≡◌, ℕ, ◌<◌, zero, suc, Bool, true, false, cond, List, [], ◌∷◌, ◌++◌, length, Option, Some, None, Result, Ok, Err, inl, inr, refl, ap, ◌∙◌, sym, subst, arith}
-use Rattle.std.specs.Prelude.{nat_lt, All, Contains, find}
-use Rattle.std.specs.List.{AllByRecursion, filter_map, cons_option}
+use Rattle.std.proofs.Common.{◌≡◌, ℕ, suc, Bool, true, false, cond, List, [], ◌∷◌, length, Option, Some, None, Result, Ok, Err, refl, ap, ◌∙◌, sym, subst, arith}
+use Rattle.std.specs.Prelude.{nat_lt, Contains, find}
+use Rattle.std.specs.List.{AllByRecursion, cons_option}
 use Rattle.std.specs.Option.{option_map}
-use Rattle.std.proofs.lemmas.List.Elements.{All-contains, All-contains_itself, All-from_recursion, recursion_from_All}
+use Rattle.std.proofs.lemmas.List.Elements.{All-contains, All-from_recursion}
 use Rattle.perc_window.specs.declared.window.Freshness.{Freshness}
 use Rattle.perc_window.specs.declared.window.Freshness.TheVariants.{Fresh, Repeated, TooOld}
 use Rattle.perc_rtp.specs.Header.{Header}
-use Rattle.perc_rtp.specs.Media.{padding_octets}
 use Rattle.perc_rtp.specs.Padding.{payload_of}
 use Rattle.perc_rtp.proofs.HeaderLaws.{padding_comes_off}
 use Rattle.perc_contexts.specs.Receiving.{Attempt, Carried, Context, freshness_of, tries}
-use Rattle.perc_contexts.specs.declared.KeyLimit.{KeyLimit}
 use Rattle.perc_contexts.proofs.ReceivingLaws.{found_of}
 use Rattle.perc_outer.specs.Datagram as outer
 use Rattle.perc_outer.specs.Datagram.{Opened, Reach, original_header}
@@ -19,7 +17,7 @@ use Rattle.perc_receiver.specs.declared.refusal.Refusal.{Refusal}
 use Rattle.perc_receiver.specs.declared.refusal.Refusal.TheVariants as refusal
 use Rattle.perc_receiver.specs.Table.{IsRight, IsRightRow, Row, Secret, Table, body_of}
 use Rattle.perc_receiver.specs.Opener.{Opener, by_table, is_row, row_of}
-use Rattle.perc_receiver.specs.Receiver.{Accepted, OpenTry, Receiver, carried_by, decided, heard, heard_reach, ideal, is_fresh, judged, judged_carried, judged_open, judged_tries, live_of, opening, openings, reach_of, some_tries, stale, without_padding}
+use Rattle.perc_receiver.specs.Receiver.{Accepted, OpenTry, Receiver, carried_by, decided, heard, heard_reach, ideal, is_fresh, judged, judged_carried, judged_open, judged_tries, live_of, openings, reach_of, some_tries, stale, without_padding}
 use Rattle.perc_receiver.specs.Calls.{IsRow, IsSent}
 use Rattle.perc_receiver.proofs.Headers.{IsRowOf, is_row-parts}
 use Rattle.perc_receiver.proofs.Tried.{IsLiveKey, IsTriedUnder, one_tried}
@@ -211,8 +209,7 @@ taken_row issued table r o a right t =
     let right_row : IsRightRow issued row = All-contains (IsRightRow issued) table.rows row right.rows found.1 in
     let some : ◌≡◌ {A = Option (List ℕ)} (Some a.payload) (Some row.payload) =
     sym t.payload ∙ row_payload issued row (original_header o) t.body right_row is.header found.3 in
-    let payload : a.payload ≡ row.payload = cc in
-    (
+    let payload : a.payload ≡ row.payload = cc in (
       row,
       found.1,
       is.header,

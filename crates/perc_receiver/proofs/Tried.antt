@@ -1,10 +1,10 @@
 -- The tries of a packet, whatever its SEQ: each is under a context of its sender that is held, or under the new one of the key
 -- that it carries; and each that is fresh may be committed.
-use Rattle.std.proofs.Common.{◌≡◌, ℕ, ◌+◌, ◌*◌, ◌/◌, ◌%◌, ◌<◌, zero, suc, Bool, true, false, cond, List, [], ◌∷◌, length, get_or, take, filter, reverse, Option, Some, None, Result, Ok, Err, inl, inr, refl, ap, ◌∙◌, sym, subst, arith}
-use Rattle.std.specs.Prelude.{◌==◌, All, AllPairs, Contains, find, IfSome, IsTrue, MatchResult}
-use Rattle.std.specs.List.{AllByRecursion, filter_map, cons_option}
+use Rattle.std.proofs.Common.{◌≡◌, ℕ, ◌+◌, ◌*◌, ◌/◌, ◌%◌, ◌<◌, zero, suc, Bool, true, false, List, [], ◌∷◌, length, get_or, filter, reverse, Option, Some, None, Result, Ok, Err, refl, ap, ◌∙◌, sym, subst, arith}
+use Rattle.std.specs.Prelude.{◌==◌, All, AllPairs, Contains, IfSome, IsTrue, MatchResult}
+use Rattle.std.specs.List.{AllByRecursion, cons_option}
 use Rattle.std.specs.Option.{option_map}
-use Rattle.std.proofs.lemmas.Bool.{eqb-true, cases_Bool}
+use Rattle.std.proofs.lemmas.Bool.{eqb-true}
 use Rattle.std.proofs.lemmas.List.Elements.{All-contains, All-contains_itself, All-filter, All-from_recursion, All-take, filter_passes, recursion_from_All}
 use Rattle.std.proofs.lemmas.List.Sorted.{All-permutation, IsPermutation-reverse}
 use Rattle.perc_window.specs.Index.{nearest}
@@ -12,7 +12,7 @@ use Rattle.perc_window.specs.Replay.{greatest}
 use Rattle.perc_window.specs.declared.window.Freshness.TheVariants.{Fresh}
 use Rattle.perc_contexts.specs.declared.KeyLimit.{KeyLimit}
 use Rattle.perc_contexts.specs.Receiving.{Attempt, Carried, Context, Receiving, at_nearest, carried_context, context_of, freshness_of, is_full, is_live, is_of, new_context, newest_of, tries}
-use Rattle.perc_contexts.specs.History.{Acceptance, IsCommit, IsHistory, SameContext}
+use Rattle.perc_contexts.specs.History.{Acceptance, IsCommit, IsHistory}
 use Rattle.perc_contexts.proofs.Names.{Apart, Pairs, is_of-parts, pairs-from, same-refl, same-sym}
 use Rattle.perc_contexts.proofs.ReceivingLaws.{IsHeld, IsNew, IsTriedContext, found_of}
 
@@ -84,7 +84,7 @@ carried_is contexts ssrc key c (Some d) full e f h =
     let is : d ≡ c = cc in
     let there = found_of (is_of key.spi ssrc key.key) contexts d e in
     (IsHeld (subst (λ x. Contains contexts x) is there.0), sym (ap (λ x. x.ssrc) is) ∙ (is_of-parts key.spi ssrc key.key d there.1).1)
-carried_is contexts ssrc key c None true e f h = let bad : ◌≡◌ {A = Result Context KeyLimit} (Err (record { })) (Ok c) = rw (e, f) at h in absurd (cc)
+carried_is contexts ssrc key c None true e f h = let bad : ◌≡◌ {A = Result Context KeyLimit} (Err (record {})) (Ok c) = rw (e, f) at h in absurd (cc)
 carried_is contexts ssrc key c None false e f h =
     let same : ◌≡◌ {A = Result Context KeyLimit} (Ok (new_context ssrc key)) (Ok c) = sym (context_new contexts ssrc key e f) ∙ h in
     let is : new_context ssrc key ≡ c = cc in

@@ -1,5 +1,5 @@
 -- What a receiver accepts over any list of calls: secrets that it gets, and datagrams that it hears.
-use Rattle.std.specs.Prelude.{◌≡◌, ℕ, ◌/◌, Bool, true, false, not, ◌||◌, List, [], ◌∷◌, ◌++◌, map, is_some, Option, Some, None, Result, Ok, Err, All, AllPairs, Contains, IsTrue}
+use Rattle.std.specs.Prelude.{◌≡◌, ℕ, ◌/◌, false, not, ◌||◌, List, [], ◌∷◌, ◌++◌, map, is_some, Option, Some, Result, Ok, Err, All, AllPairs, Contains, IsTrue}
 use Rattle.std.specs.Option.{option_map_or}
 use Rattle.perc_window.specs.Index.{nearest}
 use Rattle.perc_window.specs.Replay.{freshness, greatest}

@@ -1,6 +1,6 @@
 -- A datagram is foreign where something in it opens that nobody made: a wrapped key under a live SPI, or an inner packet by one
 -- of the tries, wherever that try stands in the list.
-use Rattle.std.specs.Prelude.{ℕ, Bool, true, false, ◌&&◌, ◌||◌, nat_lt, if◌then◌else◌, List, [], length, is_some, is_none, Option, Some, None, Result, Ok, Err}
+use Rattle.std.specs.Prelude.{ℕ, Bool, true, false, ◌&&◌, ◌||◌, nat_lt, if◌then◌else◌, List, [], length, is_some, is_none, Option, Result, Ok, Err}
 use Rattle.std.specs.List.{list_any}
 use Rattle.perc_rtp.specs.Header.{Header}
 use Rattle.perc_ekt.specs.Field.{Field, Short, Full, Extension}

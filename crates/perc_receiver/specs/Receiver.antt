@@ -1,6 +1,6 @@
 -- What a receiver makes of a datagram: the packet that it accepts, or the first thing for which it refuses it, and what it holds
 -- then (RFC 8723 section 5.3, RFC 8870 section 4.3, RFC 3711 section 3.3).
-use Rattle.std.specs.Prelude.{ℕ, ◌+◌, ◌-◌, Bool, true, false, not, ◌==◌, nat_lt, if◌then◌else◌, List, [], ◌∷◌, ◌++◌, length, map, drop, take, find, Option, Some, None, Result, Ok, Err}
+use Rattle.std.specs.Prelude.{ℕ, ◌+◌, ◌-◌, Bool, true, false, ◌==◌, nat_lt, if◌then◌else◌, List, [], ◌∷◌, ◌++◌, length, map, drop, find, Option, Some, None, Result, Ok, Err}
 use Rattle.std.specs.List.{filter_map}
 use Rattle.std.specs.Option.{option_map}
 use Rattle.perc_window.specs.Replay.{is_too_old}

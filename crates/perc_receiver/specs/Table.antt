@@ -1,6 +1,6 @@
 -- What the senders of a conference made: a row for each packet that was sent, and a wrap for each key that went out in a full
 -- field (RFC 8723 section 5.1, RFC 8870 section 4.1).
-use Rattle.std.specs.Prelude.{◌≡◌, ℕ, ◌+◌, ◌%◌, ◌^◌, ◌<◌, ◌≤◌, ◌⊎◌, ◌==◌, nat_lt, List, [], ◌∷◌, ◌++◌, length, map, Option, Some, None, All, AllPairs, MatchOption, find, slice_index}
+use Rattle.std.specs.Prelude.{◌≡◌, ℕ, ◌%◌, ◌^◌, ◌<◌, ◌⊎◌, ◌==◌, nat_lt, List, ◌++◌, length, map, Option, None, All, AllPairs, MatchOption, find, slice_index}
 use Rattle.std.specs.List.Sorted.{IsStrictlyIncreasing}
 use Rattle.perc_kdf.specs.Derivation.{KeyAndSalt, session_keys}
 use Rattle.perc_kdf.specs.declared.Kind.TheVariants.{Srtp}
