@@ -1,5 +1,5 @@
 -- What becomes of a datagram, case by case.
-use Rattle.std.proofs.Common.{◌≡◌, ℕ, ◌+◌, ◌-◌, ◌<◌, ◌≤◌, Bool, true, false, not, leb, if◌then◌else◌, List, [], ◌∷◌, ◌++◌, length, get_or, Option, is_some, Result, Ok, Err, refl, sym, ap, subst, ◌∙◌, arith}
+use Rattle.std.proofs.Common.{◌≡◌, ℕ, ◌<◌, Bool, true, false, not, leb, if◌then◌else◌, List, [], ◌∷◌, ◌++◌, length, get_or, Option, is_some, Result, Ok, Err, refl, sym, ap, subst, ◌∙◌, arith}
 use Rattle.std.specs.Prelude.{◌&&◌}
 use Rattle.std.specs.List.{list_any}
 use Rattle.std.specs.Option.{option_map_or}
@@ -27,7 +27,7 @@ use Rattle.perc_ekt.proofs.Octets.{octets_of}
 use Rattle.perc_outer.specs.declared.fault.OuterFault.{OuterFault}
 use Rattle.perc_outer.specs.declared.fault.OuterFault.TheVariants.{OwnStream, Rtp, StreamLimit}
 use Rattle.perc_outer.specs.Streams.{OuterStream, accepted_of, is_full_for, is_of, with_index}
-use Rattle.perc_outer.specs.Datagram.{Blocked, Opened, Reach, Reached, Refused, field_refusal, is_own, opened_packet, packet_refusal, reached, reached_behind, reached_datagram, reached_opened, reached_packet}
+use Rattle.perc_outer.specs.Datagram.{Blocked, Opened, Reached, Refused, field_refusal, is_own, opened_packet, packet_refusal, reached, reached_behind, reached_datagram, reached_opened, reached_packet}
 use Rattle.perc_outer.specs.Reaching.{IsReached}
 use Rattle.perc_outer.proofs.Datagrams.{datagram_read}
 use Rattle.perc_outer.proofs.Finding.{any_found, find_past_with, find_with}
