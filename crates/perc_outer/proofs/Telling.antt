@@ -9,7 +9,6 @@ use Rattle.perc_ohb.specs.Block as ohb
 use Rattle.perc_ekt.specs.Field as ekt
 use Rattle.perc_ekt.specs.declared.field.EktField.{EktField}
 use Rattle.perc_outer.specs.declared.fault.OuterFault.{OuterFault}
-use Rattle.perc_outer.specs.declared.reaching.Reached.{Reached}
 use Rattle.perc_outer.specs.Streams.{OuterStream, with_index}
 use Rattle.perc_outer.specs.Datagram.{Opened}
 use Rattle.perc_outer.specs.Kept.{IsTold, IsUnsealed, StandsFor}

@@ -1,13 +1,12 @@
 -- What the code keeps of outer streams, and what it tells of an opened datagram.
-use Rattle.std.specs.Prelude.{◌≡◌, ℕ, ◌+◌, List, [], ◌∷◌, ◌++◌, length, take, drop, ◌==◌, Option, Some, None, find, Result, Ok, Err}
-use Rattle.perc_window.specs.Replay.{Marks, StandsFor as WindowStandsFor}
+use Rattle.std.specs.Prelude.{◌≡◌, ℕ, ◌+◌, List, ◌++◌, length, take, drop, ◌==◌, Option, Some, None, find, Result, Ok, Err}
+use Rattle.perc_window.specs.Replay.{StandsFor as WindowStandsFor}
 use Rattle.perc_srtp.specs.Ends.{Stream}
 use Rattle.perc_srtp.specs.Sealed.{BeginsWith}
 use Rattle.perc_rtp.specs.Header.{Header, spelling}
 use Rattle.perc_ohb.specs.Block as ohb
 use Rattle.perc_ekt.specs.Field as ekt
 use Rattle.perc_outer.specs.Streams.{OuterStream, is_of, with_index}
-use Rattle.perc_ohb.specs.declared.block.OhbFault.{OhbFault}
 use Rattle.perc_outer.specs.declared.fault.OuterFault.{OuterFault}
 use Rattle.perc_outer.specs.declared.fault.OuterFault.TheVariants.{Ohb}
 use Rattle.perc_outer.specs.Datagram as datagram

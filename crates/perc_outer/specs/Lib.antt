@@ -3,3 +3,4 @@ pub mod Datagram
 pub mod Kept
 pub mod Places
 pub mod Parts
+pub mod Reaching

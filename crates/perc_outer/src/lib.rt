@@ -3,8 +3,11 @@
 #![tactic(auto)]
 
 mod fault;
+pub mod laws;
 mod reaching;
 mod streams;
+#[cfg(test)]
+mod tests;
 
 pub use fault::OuterFault;
 pub use reaching::{Reached, reach};

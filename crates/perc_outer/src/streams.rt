@@ -111,7 +111,8 @@ impl OuterStreams {
         ensures found { IfOk result (IsAt self.now ssrc) }
         ensures absent { IfErr result (IsGapFor self.now ssrc) }
     {
-        self.streams.binary_search_by_key(&ssrc, |stream| stream.ssrc())
+        self.streams
+            .binary_search_by_key(&ssrc, |stream| stream.ssrc())
     }
 }
 

@@ -1,12 +1,11 @@
-use Rattle.std.proofs.Common.{◌≡◌, ℕ, ◌+◌, ◌-◌, ◌≤◌, List, ◌++◌, length, take, drop, Ok, Err, refl, sym, ap, ◌∙◌, arith}
+use Rattle.std.proofs.Common.{◌≡◌, ◌+◌, ◌-◌, ◌++◌, length, take, drop, Err, refl, sym, ap, ◌∙◌, arith}
 use Rattle.std.proofs.lemmas.Result.{err_from_is_err_and}
 use Rattle.perc_rtp.specs.declared.head.RtpHead.{RtpHead}
 use Rattle.std.proofs.lemmas.List.{length-take}
 use Rattle.perc_ekt.specs.Field.{told_of}
-use Rattle.perc_ohb.specs.Block.{spelling}
 use Rattle.perc_ohb.specs.Reading.{block_of}
 use Rattle.perc_ohb.proofs.ReadingLaws.{block_read}
-use Rattle.perc_outer.specs.Datagram.{Opened, opened_packet, reached}
+use Rattle.perc_outer.specs.Datagram.{Opened, opened_packet}
 use Rattle.perc_outer.proofs.Outer.{IsRead, reached_blocked, reached_shut, reached_whole}
 use Rattle.perc_outer.proofs.Telling.{block_in, body_at, has_opened, is_told, refused_by, stand, unsealed_refused}
 use Rattle.perc_outer.proofs.reaching.reach.Goals as goal
@@ -81,7 +80,7 @@ returns-clause-answer c = λ before stands.
       record { header = head.len; block = len - c.in_ok-ohb.block_len; len = len; ohb = c.in_ok-ohb.ohb; field = c.in_ok-front.front.field },
       refl,
       is_told all (c.unseal.new.packet ++ drop end d) head.len (len - c.in_ok-ohb.block_len) len c.in_ok-front.front.field at (ap (λ (t : RtpHead). t.len) f.head_is)
-        (block_in all (c.unseal.new.packet ++ drop end d) len c.in_ok-ohb.block_len at k.2) (f.field_is ∙ ap (told_of f.field) (sym end_is)),
+          (block_in all (c.unseal.new.packet ++ drop end d) len c.in_ok-ohb.block_len at k.2) (f.field_is ∙ ap (told_of f.field) (sym end_is)),
     )
 
 pub returns-clause-streams : goal.returns-clause-streams

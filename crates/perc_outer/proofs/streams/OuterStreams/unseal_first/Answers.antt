@@ -1,9 +1,8 @@
-use Rattle.std.proofs.Common.{◌≡◌, ℕ, ◌<◌, ◌≤◌, ◌+◌, List, [], length, Ok, refl, sym, ap, ◌∙◌, subst, arith}
+use Rattle.std.proofs.Common.{◌≡◌, ◌<◌, List, [], length, Ok, refl, sym, ◌∙◌, arith}
 use Rattle.std.proofs.lemmas.Result.{err_from_is_err_and}
 use Rattle.std.proofs.lemmas.List.Edits.{length-insert}
 use Rattle.perc_srtp.specs.Streams.{rx_opened}
 use Rattle.perc_srtp.specs.Ends.{Stream}
-use Rattle.perc_outer.specs.Kept.{StandsFor}
 use Rattle.perc_outer.specs.Places.{IsGapFor}
 use Rattle.perc_outer.proofs.Finding.{rise-insert}
 use Rattle.perc_outer.proofs.Opening.{begins, begins_full, begins_kept, begins_room, same_ssrc, unsealed, unsealed_not}
@@ -26,7 +25,7 @@ returns-in_err-len-clause-answer c = λ before h rest stands is.
     let few : length c.self.inside.streams.items < 256 = omega arith in
     rw (begins_room c.args.keys.now _ before h rest c.args.place b few, e.1, e.2)
     (unsealed_not h before [] (rx_opened c.args.keys.now [] h rest) c.in_err-len.field-0.0 c.unseal.new.self c.unseal.new.packet c.args.self.now c.unseal.new.packet
-      (c.unseal.new.packet ≡ c.args.packet.now) (c.unseal.new.self ≡ c.new-stream.result) (c.in_err-len.ensures.answer [] h rest c.new-stream.ensures.window is))
+    (c.unseal.new.packet ≡ c.args.packet.now) (c.unseal.new.self ≡ c.new-stream.result) (c.in_err-len.ensures.answer [] h rest c.new-stream.ensures.window is))
 
 pub invariant_of-self : goal.invariant_of-self
 invariant_of-self c =
@@ -49,5 +48,5 @@ returns-clause-answer c = λ before h rest stands is.
     let its : c.unseal.new.self.ssrc ≡ h.ssrc = c.unseal.ensures.ssrc ∙ c.new-stream.ensures.ssrc ∙ sym (same_ssrc h r.0 rest r.1 c.args.packet.now c.args.ssrc is r.2 r.3) in
     rw (begins_room c.args.keys.now items before h rest c.args.place b few, c.keep.ensures.items)
     (unsealed h before [] (rx_opened c.args.keys.now [] h rest) (Ok c.in_ok-len.len) c.unseal.new.self c.unseal.new.packet _
-      (c.unseal.new.packet ≡ c.args.packet.now) (c.unseal.new.self ≡ c.new-stream.result) (c.in_ok-len.ensures.answer [] h rest c.new-stream.ensures.window is)
-      (begins_kept c.args.keys.now items before h rest c.args.place c.unseal.new.self b c.self.invariant.rising its))
+    (c.unseal.new.packet ≡ c.args.packet.now) (c.unseal.new.self ≡ c.new-stream.result) (c.in_ok-len.ensures.answer [] h rest c.new-stream.ensures.window is)
+    (begins_kept c.args.keys.now items before h rest c.args.place c.unseal.new.self b c.self.invariant.rising its))
