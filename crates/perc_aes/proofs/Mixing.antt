@@ -1,8 +1,10 @@
 -- Sums and products of octets, and the two matrices, of which each undoes the other.
-use Rattle.std.proofs.Common.{Bool, true, false, ◌≡◌, ℕ, zero, suc, ◌+◌, ◌*◌, ◌/◌, ◌%◌, ◌<◌, if◌then◌else◌, nat_eq, List, [], ◌∷◌, map, slice_index, slice_index_or, bit_xor, refl, sym, ◌∙◌, ap, arith}
+use Rattle.std.proofs.Common.{Bool, true, false, ◌≡◌, ℕ, zero, suc, ◌+◌, ◌-◌, ◌*◌, ◌/◌, ◌%◌, ◌^◌, ◌<◌, ◌≤◌, if◌then◌else◌, nat_eq, List, [], ◌∷◌, map, slice_index, slice_index_or, bit_xor, ⊎_elim, refl, sym, ◌∙◌, ap, arith}
 use Rattle.std.specs.Int.Bits.{xor_self, xor_zero_l, xor_zero_r, xor_assoc}
 use Rattle.std.specs.List.{range_with_len}
-use Rattle.std.proofs.lemmas.Nat.{xor_comm, xor_lt, xor_shr, xor_mod}
+use Rattle.std.proofs.lemmas.Nat.{xor_comm, xor_lt, xor_shr, xor_mod, xor_block, pow_pos}
+use Rattle.std.proofs.lemmas.Bool.{cases_lt}
+use Rattle.std.proofs.Math.Nat.{pow-suc}
 use Rattle.perc_aes.specs.Field.{add, total, times_x, product, product_below}
 use Rattle.perc_aes.specs.Cipher.{mix_matrix}
 use Rattle.perc_aes.specs.Inverse.{unmix_matrix}
@@ -90,6 +92,41 @@ pub product_in_range : (a b : ℕ) → a < 256 → product a b < 256
 unfolding product
 product_in_range a b in_range = product_below_in_range 8 a b in_range
 
+-- ---- linear functions
+
+-- f takes sums to sums
+record Linear (f : ℕ → ℕ) : Type 0 where
+  sums : (a b : ℕ) → f (add a b) ≡ add (f a) (f b)
+
+linear_zero : (f : ℕ → ℕ) → Linear f → f 0 ≡ 0
+linear_zero f is = is.sums 0 0 ∙ xor_self (f 0)
+
+-- a number that has bit n, and none above, without it
+split_top : (n a : ℕ) → 2 ^ n ≤ a → a < 2 ^ suc n → (r : ℕ) × ((r < 2 ^ n) × (a ≡ add (2 ^ n) r))
+split_top n a has below =
+    let twice : 2 ^ suc n ≡ 2 ^ n * 2 = pow-suc 2 n in
+    let top : 1 * 2 ^ n + 0 ≡ 2 ^ n = omega arith in
+    let low : 0 * 2 ^ n + (a - 2 ^ n) ≡ a - 2 ^ n = omega arith in
+    let joined : add (2 ^ n) (a - 2 ^ n) ≡ 1 * 2 ^ n + (a - 2 ^ n) =
+    ap (λ (x : ℕ). add x (a - 2 ^ n)) (sym top) ∙ ap (λ (x : ℕ). add (1 * 2 ^ n + 0) x) (sym low)
+    ∙ xor_block n 1 0 0 (a - 2 ^ n) (pow_pos n) (omega arith) ∙ ap (λ (x : ℕ). 1 * 2 ^ n + x) (xor_zero_l (a - 2 ^ n)) in
+    (a - 2 ^ n, (omega arith, omega arith))
+
+-- Two linear functions that agree at each power of two below 2^n agree at each number below 2^n.
+agree : (n : ℕ) (f g : ℕ → ℕ) → Linear f → Linear g → ((k : ℕ) → k < n → f (2 ^ k) ≡ g (2 ^ k)) → (a : ℕ) → a < 2 ^ n → f a ≡ g a
+agree zero f g is_f is_g same a below =
+    let e : a ≡ 0 = omega arith in
+    ap f e ∙ linear_zero f is_f ∙ sym (linear_zero g is_g) ∙ sym (ap g e)
+agree (suc n) f g is_f is_g same a below =
+    ⊎_elim (λ (low : a < 2 ^ n). agree n f g is_f is_g (λ k h. same k (omega arith)) a low)
+    (λ (high : 2 ^ n ≤ a).
+    let s = split_top n a high below in
+    ap f s.1.1 ∙ is_f.sums (2 ^ n) s.0
+    ∙ ap (λ (x : ℕ). add x (f s.0)) (same n (omega arith))
+    ∙ ap (λ (x : ℕ). add (g (2 ^ n)) x) (agree n f g is_f is_g (λ k h. same k (omega arith)) s.0 s.1.0)
+    ∙ sym (is_g.sums (2 ^ n) s.0) ∙ sym (ap g s.1.1))
+    (cases_lt a (2 ^ n))
+
 -- ---- matrices
 
 abbrev pub entry : List (List ℕ) → ℕ → ℕ → ℕ
@@ -103,13 +140,30 @@ twice m n r k a = total (map (λ j. product (entry m r j) (product (entry n j k)
 abbrev pub Undoes : List (List ℕ) → List (List ℕ) → Type 0
 Undoes m n = (r k a : ℕ) → r < 4 → k < 4 → a < 256 → twice m n r k a ≡ (if nat_eq r k then a else 0)
 
--- that is computed at each row, place and octet
-undoes_by_test : (m n : List (List ℕ)) → map (λ t. twice m n (t % 4) (t / 4 % 4) (t / 16)) (range_with_len 0 4096) ≡ map (λ t. if nat_eq (t % 4) (t / 4 % 4) then t / 16 else 0) (range_with_len 0 4096) → Undoes m n
+-- both sides take sums to sums
+twice_add : (m n : List (List ℕ)) (r k a b : ℕ) → twice m n r k (add a b) ≡ add (twice m n r k a) (twice m n r k b)
+twice_add m n r k a b =
+    total_same (λ j. product (entry m r j) (product (entry n j k) (add a b)))
+    (λ j. add (product (entry m r j) (product (entry n j k) a)) (product (entry m r j) (product (entry n j k) b)))
+    (λ j _.
+    ap (λ (x : ℕ). product (entry m r j) x) (product_add (entry n j k) a b)
+    ∙ product_add (entry m r j) (product (entry n j k) a) (product (entry n j k) b))
+    ∙ total_add (λ j. product (entry m r j) (product (entry n j k) a)) (λ j. product (entry m r j) (product (entry n j k) b)) (range_with_len 0 4)
+
+chosen_add : (chosen : Bool) (a b : ℕ) → (if chosen then add a b else 0) ≡ add (if chosen then a else 0) (if chosen then b else 0)
+chosen_add true a b = refl
+chosen_add false a b = refl
+
+-- so that they are computed at each row, place and power of two
+undoes_by_test : (m n : List (List ℕ)) → map (λ t. twice m n (t % 4) (t / 4 % 4) (2 ^ (t / 16))) (range_with_len 0 128) ≡ map (λ t. if nat_eq (t % 4) (t / 4 % 4) then 2 ^ (t / 16) else 0) (range_with_len 0 128) → Undoes m n
 undoes_by_test m n same r k a in_rows in_columns in_range =
-    let r_is : (r + 4 * (k + 4 * a)) % 4 ≡ r = omega arith in
-    let k_is : (r + 4 * (k + 4 * a)) / 4 % 4 ≡ k = omega arith in
-    let a_is : (r + 4 * (k + 4 * a)) / 16 ≡ a = omega arith in
-    rw (r_is, k_is, a_is) at (same_along 4096 (λ t. twice m n (t % 4) (t / 4 % 4) (t / 16)) (λ t. if nat_eq (t % 4) (t / 4 % 4) then t / 16 else 0) same (r + 4 * (k + 4 * a)) (omega arith))
+    agree 8 (λ a. twice m n r k a) (λ a. if nat_eq r k then a else 0) (record { sums = twice_add m n r k }) (record { sums = chosen_add (nat_eq r k) })
+    (λ i below.
+    let r_is : (r + 4 * (k + 4 * i)) % 4 ≡ r = omega arith in
+    let k_is : (r + 4 * (k + 4 * i)) / 4 % 4 ≡ k = omega arith in
+    let i_is : (r + 4 * (k + 4 * i)) / 16 ≡ i = omega arith in
+    rw (r_is, k_is, i_is) at (same_along 128 (λ t. twice m n (t % 4) (t / 4 % 4) (2 ^ (t / 16))) (λ t. if nat_eq (t % 4) (t / 4 % 4) then 2 ^ (t / 16) else 0) same (r + 4 * (k + 4 * i)) (omega arith)))
+    a in_range
 
 pub mix_undoes : Undoes mix_matrix unmix_matrix
 unfolding product product_below
