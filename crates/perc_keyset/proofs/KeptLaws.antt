@@ -1,12 +1,12 @@
 -- What a publisher keeps: the earlier of two gifts is that of the earliest add, and what is kept stays that of the history.
 use Rattle.std.specs.BTreeMap as tree
 use Rattle.std.specs.BTreeMap.{BTreeMap}
-use Rattle.std.proofs.Common.{◌≡◌, ◌≢◌, ℕ, ◌+◌, ◌≤◌, ◌<◌, Bool, true, false, cond, ◌&&◌, ◌||◌, List, [], ◌∷◌, ◌++◌, length, map, ◌⊎◌, ⊎_elim, inl, inr, refl, sym, ap, ◌∙◌, subst, arith, append-nil}
+use Rattle.std.proofs.Common.{◌≡◌, ℕ, ◌+◌, ◌≤◌, ◌<◌, Bool, true, false, cond, ◌||◌, List, [], ◌∷◌, ◌++◌, length, ⊎_elim, refl, sym, ap, ◌∙◌, subst, arith, append-nil}
 use Rattle.std.proofs.lemmas.Bool.{cases_Bool, cond-true, cond-false, le-ltb, lt-ltb, or_cases, or_parts}
 use Rattle.std.proofs.lemmas.List.{length-append}
 use Rattle.std.proofs.lemmas.List.Folds.{find-append}
 use Rattle.std.specs.List.{find}
-use Rattle.std.specs.Option.{option_map, option_map_or, option_or}
+use Rattle.std.specs.Option.{option_map, option_or}
 use Rattle.std.specs.Prelude.{Option, Some, None, Ok, IfSome, nat_lt}
 use Rattle.perc_kdf.specs.Derivation.{KeyAndSalt}
 use Rattle.perc_kdf.specs.Order.{pair_cmp, same_pair}
@@ -16,12 +16,12 @@ use Rattle.perc_keyset.specs.declared.Entry.{Entry}
 use Rattle.perc_keyset.specs.declared.given.Gift.{Gift}
 use Rattle.perc_keyset.specs.declared.Op.{Op}
 use Rattle.perc_keyset.specs.declared.Op.TheVariants.{Add, Remove}
-use Rattle.perc_keyset.specs.Set.{absorbed, fold_ops, set_after}
+use Rattle.perc_keyset.specs.Set.{absorbed, fold_ops}
 use Rattle.perc_keyset.specs.History.{IsHistory, adds}
-use Rattle.perc_keyset.specs.Publishing.{add_answer, gave, most_adds, new_entry, reused_by}
+use Rattle.perc_keyset.specs.Publishing.{add_answer, gave, new_entry, reused_by}
 use Rattle.perc_keyset.specs.Kept.{AreGiven, IsKept, earlier, gift_of, given_by, gives}
 use Rattle.perc_keyset.proofs.HistoryLaws.{CountFrom, counts_head, counts_tail}
-use Rattle.perc_keyset.proofs.PublishingLaws.{IsAccepted, IsAccepted-from_answer, IsHistory-add, IsHistory-remove}
+use Rattle.perc_keyset.proofs.PublishingLaws.{IsAccepted-from_answer, IsHistory-add, IsHistory-remove}
 use Rattle.perc_keyset.proofs.SetLaws.{adds-append, set_after-append}
 
 -- ---- the earliest of two
@@ -47,9 +47,9 @@ later_gift a (e ∷ es) q counts =
     subst (λ (o : Option Entry). IfSome (option_map gift_of o) (λ g. a ≤ g.serial)) (sym (cond-false (gives q e) (Some e) (find (gives q) es) there))
     (weaker a (given_by es q) (later_gift (a + 1) es q (counts_tail a e es counts))))
     (cases_Bool (gives q e)) where
-  weaker : (a : ℕ) (o : Option Gift) → IfSome o (λ g. a + 1 ≤ g.serial) → IfSome o (λ g. a ≤ g.serial)
-  weaker a None h = tt
-  weaker a (Some g) h = omega arith
+      weaker : (a : ℕ) (o : Option Gift) → IfSome o (λ g. a + 1 ≤ g.serial) → IfSome o (λ g. a ≤ g.serial)
+      weaker a None h = tt
+      weaker a (Some g) h = omega arith
 
 above : (serial a : ℕ) (o : Option Gift) → serial ≡ a → IfSome o (λ g. a + 1 ≤ g.serial) → IfSome o (λ g. serial < g.serial)
 above serial a None same h = tt
@@ -74,14 +74,14 @@ earliest a (e ∷ es) client server counts =
     let one = four (same_pair e.client client) (same_pair e.client server) (same_pair e.server client) (same_pair e.server server) in
     ap (λ (b : Bool). option_map gift_of (cond b (Some e) (find (gave client server) es))) one
     ∙ by_tests (gives client e) (gives server e) e (find (gave client server) es) (find (gives client) es) (find (gives server) es) after_client after_server (earliest (a + 1) es client server tail) where
-  by_tests : (p q : Bool) (e : Entry) (either first second : Option Entry)
-      → IfSome (option_map gift_of first) (λ g. e.serial < g.serial) → IfSome (option_map gift_of second) (λ g. e.serial < g.serial)
-      → option_map gift_of either ≡ earlier (option_map gift_of first) (option_map gift_of second)
-      → option_map gift_of (cond (p || q) (Some e) either) ≡ earlier (option_map gift_of (cond p (Some e) first)) (option_map gift_of (cond q (Some e) second))
-  by_tests true true e either first second x y same = sym (itself (gift_of e))
-  by_tests true false e either first second x y same = sym (first_stays (gift_of e) (option_map gift_of second) y)
-  by_tests false true e either first second x y same = sym (second_wins (gift_of e) (option_map gift_of first) x)
-  by_tests false false e either first second x y same = same
+      by_tests : (p q : Bool) (e : Entry) (either first second : Option Entry)
+          → IfSome (option_map gift_of first) (λ g. e.serial < g.serial) → IfSome (option_map gift_of second) (λ g. e.serial < g.serial)
+          → option_map gift_of either ≡ earlier (option_map gift_of first) (option_map gift_of second)
+          → option_map gift_of (cond (p || q) (Some e) either) ≡ earlier (option_map gift_of (cond p (Some e) first)) (option_map gift_of (cond q (Some e) second))
+      by_tests true true e either first second x y same = sym (itself (gift_of e))
+      by_tests true false e either first second x y same = sym (first_stays (gift_of e) (option_map gift_of second) y)
+      by_tests false true e either first second x y same = sym (second_wins (gift_of e) (option_map gift_of first) x)
+      by_tests false false e either first second x y same = same
 
 association_of : (o : Option Entry) → option_map (λ e. e.association) o ≡ option_map (λ g. g.association) (option_map gift_of o)
 association_of None = refl
@@ -141,7 +141,7 @@ more_given : (es : List Entry) (e : Entry) (f g : KeyAndSalt → Option Gift) �
     → ((q : KeyAndSalt) → g q ≡ cond (gives q e) (Some (gift_of e)) (f q)) → (q : KeyAndSalt) → g q ≡ given_by (es ++ e ∷ []) q
 more_given es e f g absent given put q =
     let last : given_by (es ++ e ∷ []) q ≡ option_map gift_of (option_or (find (gives q) es) (cond (gives q e) (Some e) None)) =
-        ap (λ (o : Option Entry). option_map gift_of o) (find-append (gives q) es (e ∷ [])) in
+    ap (λ (o : Option Entry). option_map gift_of o) (find-append (gives q) es (e ∷ [])) in
     ⊎_elim (λ (yes : gives q e ≡ true).
     let none = sym (given q) ∙ none_where_gives f e q absent yes in
     put q ∙ cond-true (gives q e) (Some (gift_of e)) (f q) yes ∙ sym (last ∙ ap (λ (b : Bool). option_map gift_of (option_or (find (gives q) es) (cond b (Some e) None))) yes ∙ at_end (find (gives q) es) e none))
@@ -149,12 +149,13 @@ more_given es e f g absent given put q =
     put q ∙ cond-false (gives q e) (Some (gift_of e)) (f q) other ∙ given q
     ∙ sym (last ∙ ap (λ (b : Bool). option_map gift_of (option_or (find (gives q) es) (cond b (Some e) None))) other ∙ no_more (find (gives q) es)))
     (cases_Bool (gives q e)) where
-  at_end : (o : Option Entry) (e : Entry) → option_map gift_of o ≡ None → option_map gift_of (option_or o (Some e)) ≡ Some (gift_of e)
-  at_end None e none = refl
-  at_end (Some d) e none = absurd cc
-  no_more : (o : Option Entry) → option_map gift_of (option_or o None) ≡ option_map gift_of o
-  no_more None = refl
-  no_more (Some d) = refl
+      at_end : (o : Option Entry) (e : Entry) → option_map gift_of o ≡ None → option_map gift_of (option_or o (Some e)) ≡ Some (gift_of e)
+      at_end None e none = refl
+      at_end (Some d) e none = absurd cc
+
+      no_more : (o : Option Entry) → option_map gift_of (option_or o None) ≡ option_map gift_of o
+      no_more None = refl
+      no_more (Some d) = refl
 
 -- ---- what is kept
 

@@ -1,5 +1,5 @@
 -- What a publisher accepts keeps a history one.
-use Rattle.std.proofs.Common.{◌≡◌, ◌≢◌, ℕ, ◌+◌, ◌<◌, Bool, true, false, cond, ◌&&◌, ◌||◌, List, [], ◌∷◌, ◌++◌, length, ◌⊎◌, ⊎_elim, inl, inr, refl, sym, ap, ◌∙◌, subst, arith, get_or, append-nil}
+use Rattle.std.proofs.Common.{◌≡◌, ◌≢◌, ℕ, ◌<◌, Bool, true, false, cond, ◌||◌, List, [], ◌∷◌, ◌++◌, length, refl, sym, ◌∙◌, subst, arith, append-nil}
 use Rattle.std.proofs.lemmas.Bool.{cond_both, leb-false, or_parts}
 use Rattle.std.proofs.lemmas.Grind.{flat_map-append}
 use Rattle.std.proofs.lemmas.List.{append_assoc}
@@ -85,12 +85,12 @@ IsHistory-add ops association client server history new =
     let given : List KeyAndSalt = pairs_of (adds ops) in
     let added : adds (ops ++ Add e ∷ []) ≡ adds ops ++ e ∷ [] = adds-append ops (Add e ∷ []) in
     let pairs : pairs_of (adds ops ++ e ∷ []) ≡ (given ++ client ∷ []) ++ server ∷ [] =
-        flat_map-append (λ (d : Entry). d.client ∷ d.server ∷ []) (adds ops) (e ∷ []) ∙ sym (append_assoc given (client ∷ []) (server ∷ [])) in
+    flat_map-append (λ (d : Entry). d.client ∷ d.server ∷ []) (adds ops) (e ∷ []) ∙ sym (append_assoc given (client ∷ []) (server ∷ [])) in
     let apart = All-not_given client server (adds ops) (All-from_find (gave client server) (adds ops) new.found) in
     let own : client ≢ server = differ_from_test client server new.equal in
     let with_client : AllPairs Differ (given ++ client ∷ []) = all_pairs_push Differ given client history.pairs (λ k d inside. (apart k d inside).0) in
     let before_server : All (λ p. p ≢ server) (given ++ client ∷ []) =
-        All-push (λ p. p ≢ server) given client (All-weaker (λ p. (p ≢ client) × (p ≢ server)) (λ p. p ≢ server) (λ p h. h.1) given apart) own in
+    All-push (λ p. p ≢ server) given client (All-weaker (λ p. (p ≢ client) × (p ≢ server)) (λ p. p ≢ server) (λ p h. h.1) given apart) own in
     let with_server : AllPairs Differ ((given ++ client ∷ []) ++ server ∷ []) = all_pairs_push Differ (given ++ client ∷ []) server with_client before_server in
     record {
       serials = subst (CountFrom 0) (sym added) (counts_push 0 (adds ops) e history.serials (omega arith));

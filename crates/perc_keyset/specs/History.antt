@@ -1,5 +1,5 @@
 -- What a history of adds and removals is: each add has the number of those before it, and no outer pair stands twice.
-use Rattle.std.specs.Prelude.{◌≡◌, ◌≢◌, ℕ, ◌≤◌, ◌<◌, List, [], ◌∷◌, ◌++◌, length, map, All, AllPairs, Contains}
+use Rattle.std.specs.Prelude.{◌≡◌, ◌≢◌, ◌≤◌, List, [], ◌∷◌, ◌++◌, length, map, All, AllPairs, Contains}
 use Rattle.std.specs.List.{range_with_len, flat_map}
 use Rattle.perc_kdf.specs.Derivation.{KeyAndSalt}
 use Rattle.perc_keyset.specs.declared.Entry.{Entry}

@@ -1,16 +1,16 @@
 -- What a publisher answers, by the adds and removals that it accepted, the oldest first.
-use Rattle.std.specs.Prelude.{◌≡◌, ℕ, ◌^◌, Bool, false, ◌&&◌, ◌||◌, nat_le, if◌then◌else◌, List, [], ◌∷◌, ◌++◌, length, Option, Some, None, Result, Ok, Err, find}
+use Rattle.std.specs.Prelude.{ℕ, ◌^◌, Bool, false, ◌&&◌, ◌||◌, nat_le, if◌then◌else◌, List, [], ◌∷◌, ◌++◌, length, Option, Some, None, Result, Ok, Err, find}
 use Rattle.std.specs.Option.{option_map, option_map_or, option_or}
 use Rattle.perc_kdf.specs.Derivation.{KeyAndSalt}
 use Rattle.perc_kdf.specs.Order.{same_pair}
 use Rattle.perc_keyset.specs.declared.Entry.{Entry}
 use Rattle.perc_keyset.specs.declared.Op.{Op}
-use Rattle.perc_keyset.specs.declared.Op.TheVariants.{Add, Remove}
+use Rattle.perc_keyset.specs.declared.Op.TheVariants.{Add}
 use Rattle.perc_keyset.specs.declared.Added.{Added}
 use Rattle.perc_keyset.specs.declared.Added.TheVariants.{New, Same}
 use Rattle.perc_keyset.specs.declared.AddFault.{AddFault}
 use Rattle.perc_keyset.specs.declared.AddFault.TheVariants.{KeyReused, SetFull, AddsSpent}
-use Rattle.perc_keyset.specs.Set.{fold_ops, entry_of, holds, without, most_entries}
+use Rattle.perc_keyset.specs.Set.{fold_ops, entry_of, without, most_entries}
 use Rattle.perc_keyset.specs.History.{adds}
 
 -- how many adds are accepted in all

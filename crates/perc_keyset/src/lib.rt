@@ -1,4 +1,5 @@
-//! Key sets: which associations a media distributor forwards to, and under which outer keys.
+//! Key sets: which associations a media distributor forwards to (RFC 8871), and under which outer keys, as a key
+//! distributor gives them (RFC 9185). No outer key and salt serve twice.
 #![tactic(auto)]
 
 mod given;
@@ -6,16 +7,15 @@ pub mod laws;
 mod publisher;
 mod set;
 
+use perc_kdf::Master;
 pub use publisher::Publisher;
 pub use set::KeySet;
-
-use perc_kdf::Master;
 use thiserror::Error;
 
 /// An association with its outer keys.
 #[derive(Clone, Copy)]
 pub struct Entry {
-    /// The association's name.
+    /// The association's name, as in the tunnel's messages.
     pub association: [u8; 16],
     /// How many adds were accepted before this one.
     pub serial: u32,
@@ -46,8 +46,8 @@ pub enum Added {
 /// Why an association isn't added.
 #[derive(Clone, Copy, Debug, PartialEq, Eq, Error)]
 pub enum AddFault {
-    /// An outer pair was given before: by the earliest add that gave one of the two, this association's. Or the two are
-    /// equal, and the association is the one to be added.
+    /// One of the two outer pairs was given before: the earliest add that gave one of them was this association's. Or the
+    /// two are equal, and this is the association to be added.
     #[error("an outer key would be used again, of the association {0:?}")]
     KeyReused([u8; 16]),
     /// 64 other associations are held.
@@ -71,3 +71,6 @@ pub enum RemoveFault {
     #[error("out of memory")]
     Memory,
 }
+
+#[cfg(test)]
+mod tests;
