@@ -13,7 +13,7 @@ use Rattle.byteorder.specs.Endian.{big_bytes, big_number}
 use Rattle.hex.specs.Hex.{IsBytes, decode_of, encode_lower, encode_with, lower_digits}
 use Rattle.hex.specs.declared.error.FromHexError.{FromHexError}
 use Rattle.hex.proofs.HexLemmas.{decode_of-ok, decode_of-encode_lower, length-encode_with}
-use Rattle.perc_word.specs.Word.{is_upper, is_alphanumeric, is_name, name_in, number_in, value_onto, are_octets, AreOctets, Also, only, text_in, marker_in, marker_text, octets_in, spelled_by, ssrc_in, ssrc_text, payload_in, payload_text, dash}
+use Rattle.perc_word.specs.Word.{is_upper, is_alphanumeric, is_name, IsName, name_in, name_text, number_in, value_onto, are_octets, AreOctets, Also, only, text_in, marker_in, marker_text, octets_in, spelled_by, ssrc_in, ssrc_text, payload_in, payload_text, dash}
 use Rattle.perc_word.specs.Digits.{is_digit, is_lower_digit}
 use Rattle.perc_word.proofs.Numerals.{own, decimal-numeral, number_some}
 use Rattle.perc_word.proofs.Spelled.{encode-lower}
@@ -142,17 +142,10 @@ name-inside (c ∷ cs) h =
     let parts = and_parts _ _ (and_parts _ _ h).0 in
     and_from _ _ (upper-inside c parts.0) (all_weaker is_alphanumeric _ alphanumeric-inside cs parts.1)
 
-abbrev pub IsName : List ℕ → Type 0
-IsName name = is_name name ≡ true
-
--- the text of a name is the name
-abbrev pub itself_text : List ℕ → List ℕ
-itself_text word = word
-
 name-back : (word name : List ℕ) → name_in word ≡ Some name → (word ≡ name) × IsName name
 name-back word name h = let parts = cond_some (is_name word) word name h in (parts.1, subst IsName parts.1 parts.0)
 
-pub name_spelling : Spelling name_in itself_text IsName
+pub name_spelling : Spelling name_in name_text IsName
 name_spelling = record {
   back = name-back;
   again = λ name h. rw h refl;

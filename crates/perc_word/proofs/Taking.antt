@@ -56,7 +56,7 @@ with_prefix prefix word text test e =
 -- what holds of an option's words and all words behind them holds of the words that were read
 pub option_taken : {A B : Type 0} (prefix : List ℕ) (reads : List ℕ → Option A) (text : A → List ℕ) (Fits : A → Type 0) → Spelling reads text Fits
     → (more : Option A → List (List ℕ) → Option B) (y : B) (Goal : List (List ℕ) → Type 0) (words : List (List ℕ)) → option_then prefix reads more words ≡ Some y
-    → ((value : Option A) (rest : List (List ℕ)) → IfSome value Fits → more value rest ≡ Some y → Goal (option_words prefix text value ++ rest)) → Goal words
+    → ((value : Option A) (rest : List (List ℕ)) → IfSome value Fits → more value rest ≡ Some y → Goal (option_words prefix text value rest)) → Goal words
 option_taken prefix reads text Fits kind more y Goal [] h behind = behind None [] tt h
 option_taken prefix reads text Fits kind more y Goal (word ∷ rest) h behind =
     elim (cases_Bool (bytes_eq (take (length prefix) word) prefix)) [
@@ -76,7 +76,7 @@ lacks prefix (word ∷ words) = not (bytes_eq (take (length prefix) word) prefix
 -- an option's words are read as the option
 pub option_again : {A B : Type 0} (prefix : List ℕ) (reads : List ℕ → Option A) (text : A → List ℕ) (Fits : A → Type 0) → Spelling reads text Fits
     → (more : Option A → List (List ℕ) → Option B) (value : Option A) (rest : List (List ℕ)) → IfSome value Fits → lacks prefix rest ≡ true
-    → option_then prefix reads more (option_words prefix text value ++ rest) ≡ more value rest
+    → option_then prefix reads more (option_words prefix text value rest) ≡ more value rest
 option_again prefix reads text Fits kind more None [] fits h = refl
 option_again prefix reads text Fits kind more None (word ∷ rest) fits h = rw (not-true _ h) refl
 option_again prefix reads text Fits kind more (Some value) rest fits h =
@@ -87,14 +87,14 @@ option_again prefix reads text Fits kind more (Some value) rest fits h =
 
 -- an option of another prefix in front
 pub lacks_option : {A : Type 0} (prefix other : List ℕ) (text : A → List ℕ) (value : Option A) (rest : List (List ℕ))
-    → ((xs : List ℕ) → not (bytes_eq (take (length prefix) (other ++ xs)) prefix) ≡ true) → lacks prefix rest ≡ true → lacks prefix (option_words other text value ++ rest) ≡ true
+    → ((xs : List ℕ) → not (bytes_eq (take (length prefix) (other ++ xs)) prefix) ≡ true) → lacks prefix rest ≡ true → lacks prefix (option_words other text value rest) ≡ true
 lacks_option prefix other text None rest differs h = h
 lacks_option prefix other text (Some value) rest differs h = differs (text value)
 
 -- no space stands in an option's words
 pub option_free : {A : Type 0} (prefix : List ℕ) (reads : List ℕ → Option A) (text : A → List ℕ) (Fits : A → Type 0) → Spelling reads text Fits
     → (value : Option A) (rest : List (List ℕ)) → is_free 32 prefix ≡ true → IfSome value Fits → list_all (is_free 32) rest ≡ true
-    → list_all (is_free 32) (option_words prefix text value ++ rest) ≡ true
+    → list_all (is_free 32) (option_words prefix text value rest) ≡ true
 option_free prefix reads text Fits kind None rest free fits h = h
 option_free prefix reads text Fits kind (Some value) rest free fits h = and_from _ _ (free-append 32 prefix (text value) free (kind.free value fits)) h
 

@@ -80,10 +80,10 @@ option_then prefix reads more words = do
   next ← option_in prefix reads words
   more next.0 next.1
 
--- the words of such an option
-abbrev pub option_words : {A : Type 0} → List ℕ → (A → List ℕ) → Option A → List (List ℕ)
-option_words prefix text None = []
-option_words prefix text (Some value) = (prefix ++ text value) ∷ []
+-- the word of such an option, where it is given, in front of other words
+abbrev pub option_words : {A : Type 0} → List ℕ → (A → List ℕ) → Option A → List (List ℕ) → List (List ℕ)
+option_words prefix text None words = words
+option_words prefix text (Some value) words = (prefix ++ text value) ∷ words
 
 -- what a word says, where that passes a test
 abbrev pub only : {A : Type 0} → (A → Bool) → (List ℕ → Option A) → List ℕ → Option A
@@ -115,6 +115,13 @@ is_name (c ∷ cs) = is_upper c && list_all is_alphanumeric cs && nat_le (length
 
 abbrev pub name_in : List ℕ → Option (List ℕ)
 name_in word = if is_name word then Some word else None
+
+-- the text of a name is the name
+abbrev pub name_text : List ℕ → List ℕ
+name_text name = name
+
+abbrev pub IsName : List ℕ → Type 0
+IsName name = IsTrue (is_name name)
 
 -- ---- numbers
 

@@ -12,8 +12,7 @@ mod words;
 pub use lists::{Datagrams, Names, Ssrcs};
 pub use name::Name;
 pub use next::{
-    end, next_marker, next_name, next_octets, next_payload, next_payload_type, next_ssrc, next_u16,
-    next_u32,
+    end, next_marker, next_octets, next_payload, next_payload_type, next_ssrc, next_u16, next_u32,
 };
 pub use numbers::{marker, number, payload_type, ssrc};
 pub use octets::Octets;

@@ -1,18 +1,10 @@
 // The next word of a line, as what it says.
 ghost use Rattle.std.specs.Prelude.{◌≡◌};
 ghost use Rattle.std.specs.Option.{option_map};
-ghost use Rattle.perc_word.specs.Word.{next_in, end_of, name_in, number_in, most_of_two, most_of_four, ssrc_in, octets_in, payload_in, payload_type_in, marker_in};
+ghost use Rattle.perc_word.specs.Word.{next_in, end_of, number_in, most_of_two, most_of_four, ssrc_in, octets_in, payload_in, payload_type_in, marker_in};
 ghost use Rattle.perc_word.specs.Left.{words_left, value_taken};
 
-use super::{Name, Octets, marker, next_word, number, payload_type, ssrc};
-
-/// A name, and the words behind it.
-pub fn next_name(words: Option<&[u8]>) -> Option<(Name, Option<&[u8]>)>
-    ensures { option_map value_taken result ≡ next_in name_in (words_left words.entry) }
-{
-    let (word, words) = next_word(words)?;
-    Some((Name::read(word)?, words))
-}
+use super::{Octets, marker, next_word, number, payload_type, ssrc};
 
 /// A number of two octets in decimal, and the words behind it.
 pub fn next_u16(words: Option<&[u8]>) -> Option<(u16, Option<&[u8]>)>

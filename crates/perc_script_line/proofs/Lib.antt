@@ -1,0 +1,2 @@
+mod Kinds
+mod Several
