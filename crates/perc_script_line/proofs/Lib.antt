@@ -1,2 +1,4 @@
-mod Kinds
+mod Lines
 mod Several
+mod Sorts
+mod Told

@@ -4,6 +4,7 @@
 mod changes;
 mod forms;
 mod keys;
+pub mod laws;
 mod options;
 mod reason;
 mod script;

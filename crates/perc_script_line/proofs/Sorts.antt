@@ -1,5 +1,5 @@
 -- The kinds of words in lines of a script: what each says, and the one word that says it.
-use Rattle.std.proofs.Common.{◌≡◌, ℕ, ◌≤◌, Bool, true, false, cond, inl, inr, List, [], ◌∷◌, Option, Some, None, refl, sym, ap, ◌∙◌, subst, arith}
+use Rattle.std.proofs.Common.{◌≡◌, ℕ, ◌≤◌, true, false, inl, inr, List, [], ◌∷◌, Option, Some, None, refl, sym, ap, ◌∙◌, subst, arith}
 use Rattle.std.specs.Prelude.{codes, nat_le}
 use Rattle.std.specs.List.{list_all}
 use Rattle.std.specs.Option.{option_map}
@@ -11,11 +11,11 @@ use Rattle.hex.specs.Hex.{encode_lower}
 use Rattle.perc_base.specs.declared.profile.Profile.{Profile}
 use Rattle.perc_base.specs.declared.profile.Profile.TheVariants.{Aes128, Aes256}
 use Rattle.perc_rtp.specs.Media.{is_payload_type}
-use Rattle.perc_word.specs.Word.{Also, AreOctets, AreItems, IsName, name_in, name_text, number_in, most_of_two, most_of_four, octets_in, ssrc_in, ssrc_text, ssrcs_in, datagrams_in, names_in, payload_type_in, marker_in, marker_text, list_text}
+use Rattle.perc_word.specs.Word.{Also, AreOctets, AreItems, IsName, name_text, number_in, most_of_two, most_of_four, ssrc_text, ssrcs_in, datagrams_in, names_in, payload_type_in, list_text}
 use Rattle.perc_word.specs.Digits.{is_lower_digit}
 use Rattle.perc_word.proofs.Split.{is_free}
 use Rattle.perc_word.proofs.Spelled.{encode-lower}
-use Rattle.perc_word.proofs.Spelling.{Spelling, chosen, same, bytes_from, only_spelling, text_spelling, name_spelling, name-no_comma, number_spelling, number-no_comma, octets_spelling, ssrc_spelling, ssrc-no_comma, marker_spelling}
+use Rattle.perc_word.proofs.Spelling.{Spelling, chosen, same, bytes_from, only_spelling, text_spelling, name_spelling, name-no_comma, number_spelling, number-no_comma, octets_spelling, ssrc_spelling, ssrc-no_comma}
 use Rattle.perc_word.proofs.Items.{list_spelling}
 use Rattle.perc_script_line.specs.declared.verb.Verb.{Verb}
 use Rattle.perc_script_line.specs.declared.verb.Verb.TheVariants as verb
@@ -141,8 +141,8 @@ replaced-back word r h =
 no_drop : (octets : List ℕ) → AreOctets octets → bytes_eq (encode_lower octets) (codes "drop") ≡ false
 no_drop octets h =
     false_from_ne_true _ (λ t.
-      let digits = encode-lower octets (bytes_from octets h.octets) in
-      both_ways (list_all is_lower_digit (codes "drop")) refl (sym (ap (list_all is_lower_digit) (same (encode_lower octets) (codes "drop") t)) ∙ digits))
+    let digits = encode-lower octets (bytes_from octets h.octets) in
+    both_ways (list_all is_lower_digit (codes "drop")) refl (sym (ap (list_all is_lower_digit) (same (encode_lower octets) (codes "drop") t)) ∙ digits))
 
 replaced-again : (r : Replaced) → IsReplaced r → replaced_in (replaced_text r) ≡ Some r
 replaced-again Dropped h = refl
