@@ -1,0 +1,4 @@
+pub mod Growth
+pub mod Reasons
+pub mod Report
+pub mod View

@@ -1,0 +1,13 @@
+//! The lines of conference reports, written and read.
+#![tactic(auto)]
+
+mod append;
+mod read;
+mod reason_words;
+mod reasons;
+mod report;
+mod verb;
+mod write;
+
+pub use reasons::{Denial, Loss, Refusal};
+pub use report::ReportLine;

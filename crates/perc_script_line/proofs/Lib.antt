@@ -1,0 +1,4 @@
+mod Lines
+mod Several
+mod Sorts
+mod Told

@@ -1,0 +1,3 @@
+pub mod Reason
+pub mod Script
+pub mod View
