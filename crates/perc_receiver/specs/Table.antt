@@ -1,6 +1,6 @@
 -- What the senders of a conference made: a row for each packet that was sent, and a wrap for each key that went out in a full
 -- field (RFC 8723 section 5.1, RFC 8870 section 4.1).
-use Rattle.std.specs.Prelude.{◌≡◌, ℕ, ◌%◌, ◌^◌, ◌<◌, ◌⊎◌, ◌==◌, nat_lt, List, ◌++◌, length, map, Option, None, All, AllPairs, MatchOption, find, slice_index}
+use Rattle.std.specs.Prelude.{◌≡◌, ℕ, ◌%◌, ◌^◌, ◌<◌, ◌⊎◌, ◌==◌, nat_lt, List, ◌++◌, length, map, Option, None, All, AllPairs, MatchOption, find, take, slice_index}
 use Rattle.std.specs.List.Sorted.{IsStrictlyIncreasing}
 use Rattle.perc_kdf.specs.Derivation.{KeyAndSalt, session_keys}
 use Rattle.perc_kdf.specs.declared.Kind.TheVariants.{Srtp}
@@ -9,12 +9,17 @@ use Rattle.perc_rtp.specs.Media.{padding_octets}
 use Rattle.perc_srtp.specs.Sealed.{sealed_body}
 use Rattle.perc_keywrap.specs.Wrap.{wrapped}
 use Rattle.perc_ekt.specs.Key.{plain_text}
+use Rattle.perc_ekt.specs.declared.record.EktKeyRecord.{EktKeyRecord}
 
 -- the record of an EKT key: its SPI, the key that wraps, and the salt of the inner masters
 pub record Secret : Type 0 where
   pub spi : ℕ
   pub key : List ℕ
   pub salt : List ℕ
+
+-- the secret that a record tells
+abbrev pub secret_in : EktKeyRecord → Secret
+secret_in r = record { spi = r.spi; key = take r.len r.key; salt = r.salt }
 
 abbrev pub AreOctets : List ℕ → Type 0
 AreOctets octets = (k : ℕ) → slice_index octets k < 256
