@@ -45,7 +45,8 @@ is_Equal Greater h = cc
 -- the order ties two pairs exactly where they are equal
 pub pair_cmp_ties : (p q : KeyAndSalt) → is_eq (pair_cmp p q) ≡ same_pair p q
 pair_cmp_ties p q =
-    same_from_decides (is_eq (pair_cmp p q)) (same_pair p q)
-    (λ (h : is_eq (pair_cmp p q) ≡ true). pair_cmp_exact p q (is_Equal (pair_cmp p q) h),
-    λ (e : p ≡ q). subst (λ (r : KeyAndSalt). is_eq (pair_cmp p r) ≡ true) e (ap is_eq (tied_itself pair_cmp_total p)))
+    same_from_decides (is_eq (pair_cmp p q)) (same_pair p q) (
+      λ (h : is_eq (pair_cmp p q) ≡ true). pair_cmp_exact p q (is_Equal (pair_cmp p q) h),
+      λ (e : p ≡ q). subst (λ (r : KeyAndSalt). is_eq (pair_cmp p r) ≡ true) e (ap is_eq (tied_itself pair_cmp_total p)),
+    )
     (same_pair-Decides p q)
