@@ -1,5 +1,5 @@
 -- How keys with their salts compare: equality tells them apart, and the order is total and agrees with it.
-use Rattle.std.proofs.Common.{◌≡◌, Bool, true, refl, ap, subst}
+use Rattle.std.proofs.Common.{◌≡◌, true, refl, ap, subst}
 use Rattle.std.proofs.lemmas.Bool.Decides.{Decides-and, Decides-like, same_from_decides}
 use Rattle.std.proofs.lemmas.Cmp.{tied_itself}
 use Rattle.std.proofs.lemmas.Map.Lookups.{CmpEqualImpliesEq, exact_bytes}
@@ -45,7 +45,8 @@ is_Equal Greater h = cc
 -- the order ties two pairs exactly where they are equal
 pub pair_cmp_ties : (p q : KeyAndSalt) → is_eq (pair_cmp p q) ≡ same_pair p q
 pair_cmp_ties p q =
-    same_from_decides (is_eq (pair_cmp p q)) (same_pair p q)
-    (λ (h : is_eq (pair_cmp p q) ≡ true). pair_cmp_exact p q (is_Equal (pair_cmp p q) h),
-    λ (e : p ≡ q). subst (λ (r : KeyAndSalt). is_eq (pair_cmp p r) ≡ true) e (ap is_eq (tied_itself pair_cmp_total p)))
+    same_from_decides (is_eq (pair_cmp p q)) (same_pair p q) (
+      λ (h : is_eq (pair_cmp p q) ≡ true). pair_cmp_exact p q (is_Equal (pair_cmp p q) h),
+      λ (e : p ≡ q). subst (λ (r : KeyAndSalt). is_eq (pair_cmp p r) ≡ true) e (ap is_eq (tied_itself pair_cmp_total p)),
+    )
     (same_pair-Decides p q)
