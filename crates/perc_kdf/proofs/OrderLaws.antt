@@ -1,5 +1,5 @@
 -- How keys with their salts compare: equality tells them apart, and the order is total and agrees with it.
-use Rattle.std.proofs.Common.{◌≡◌, Bool, true, refl, ap, subst}
+use Rattle.std.proofs.Common.{◌≡◌, true, refl, ap, subst}
 use Rattle.std.proofs.lemmas.Bool.Decides.{Decides-and, Decides-like, same_from_decides}
 use Rattle.std.proofs.lemmas.Cmp.{tied_itself}
 use Rattle.std.proofs.lemmas.Map.Lookups.{CmpEqualImpliesEq, exact_bytes}

@@ -33,6 +33,15 @@ earlier (Some gift) (Some other) = if nat_lt other.serial gift.serial then Some 
 abbrev pub AreGiven : List Entry → BTreeMap KeyAndSalt Gift → Type 0
 AreGiven added map = (pair : KeyAndSalt) → tree.get pair_cmp map pair ≡ given_by added pair
 
+-- The second map has this at the pairs of an add, and what the first has elsewhere.
+abbrev pub HasAtPairs : Entry → Option Gift → BTreeMap KeyAndSalt Gift → BTreeMap KeyAndSalt Gift → Type 0
+HasAtPairs e value first second =
+    (pair : KeyAndSalt) → tree.get pair_cmp second pair ≡ (if gives pair e then value else tree.get pair_cmp first pair)
+
+-- The two maps have the same everywhere.
+abbrev pub HaveSame : BTreeMap KeyAndSalt Gift → BTreeMap KeyAndSalt Gift → Type 0
+HaveSame first second = (pair : KeyAndSalt) → tree.get pair_cmp second pair ≡ tree.get pair_cmp first pair
+
 -- What is kept is that of this history: its set, the number of adds, and the pairs that they gave.
 pub record IsKept (set : List Entry) (ops : List Op) (count : ℕ) (map : BTreeMap KeyAndSalt Gift) : Type 0 where
   pub history : IsHistory ops

@@ -1,9 +1,8 @@
 // The outer pairs that were ever given, each with the add that gave it.
 ghost use Rattle.std.specs.BTreeMap as tree;
-ghost use Rattle.std.specs.Prelude.{◌≡◌, ◌≢◌, ℕ, Some, None, if◌then◌else◌, OnOk, OnErr};
-ghost use Rattle.perc_kdf.specs.Derivation.{KeyAndSalt};
+ghost use Rattle.std.specs.Prelude.{◌≡◌, OnOk, OnErr};
 ghost use Rattle.perc_kdf.specs.Order.{pair_cmp};
-ghost use Rattle.perc_keyset.specs.Kept.{earlier, gift_of, gives};
+ghost use Rattle.perc_keyset.specs.Kept.{HasAtPairs, HaveSame, earlier, gift_of};
 
 use crate::Entry;
 use perc_base::Memory;
@@ -31,8 +30,8 @@ pub fn earlier(gift: Option<Gift>, other: Option<Gift>) -> Option<Gift>
 // Puts in the pairs of an entry, of which the client's isn't in. Neither stays in where there is no memory for both.
 pub fn give(given: &mut BTreeMap<Master, Gift>, entry: &Entry) -> Result<(), Memory>
     requires { tree.get pair_cmp given.old entry.now.client ≡ None }
-    ensures given { OnOk result ((pair : KeyAndSalt) → tree.get pair_cmp given.new pair ≡ (if gives pair entry.now then Some (gift_of entry.now) else tree.get pair_cmp given.old pair)) }
-    ensures refused { OnErr result ((pair : KeyAndSalt) → tree.get pair_cmp given.new pair ≡ tree.get pair_cmp given.old pair) }
+    ensures given { OnOk result (HasAtPairs entry.now (Some (gift_of entry.now)) given.old given.new) }
+    ensures refused { OnErr result (HaveSame given.old given.new) }
 {
     let gift = Gift {
         serial: entry.serial,
@@ -50,7 +49,7 @@ pub fn give(given: &mut BTreeMap<Master, Gift>, entry: &Entry) -> Result<(), Mem
 
 // Takes out the pairs of an entry.
 pub fn take_back(given: &mut BTreeMap<Master, Gift>, entry: &Entry)
-    ensures { (pair : KeyAndSalt) → tree.get pair_cmp given.new pair ≡ (if gives pair entry.now then None else tree.get pair_cmp given.old pair) }
+    ensures { HasAtPairs entry.now None given.old given.new }
 {
     given.remove(&entry.client);
     given.remove(&entry.server);

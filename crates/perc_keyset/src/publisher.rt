@@ -5,7 +5,6 @@ ghost use Rattle.perc_keyset.specs.History.{IsHistory, adds};
 ghost use Rattle.perc_keyset.specs.Kept.{given_by};
 ghost use Rattle.perc_keyset.specs.Publishing as spec;
 ghost use Rattle.perc_keyset.specs.Publishing.{add_answer, after_add, is_same, new_entry};
-ghost use Rattle.perc_keyset.specs.declared.Op.TheVariants.{Add, Remove};
 
 use crate::given::{Gift, earlier, give, take_back};
 use crate::set::KeySet;
@@ -174,7 +173,7 @@ impl Publisher {
     // Takes up an add that may be accepted.
     fn accept(&mut self, keys: &MediaKeys) -> Result<(), Memory>
         requires { add_answer self.old keys.now.association keys.now.client keys.now.server ≡ Ok Added.New }
-        ensures added { OnOk result (self.new ≡ self.old ++ Op.Add (new_entry self.old keys.now.association keys.now.client keys.now.server) ∷ []) }
+        ensures added { OnOk result (self.new ≡ after_add self.old keys.now.association keys.now.client keys.now.server (Ok Added.New)) }
         ensures refused { OnErr result (self.new ≡ self.old) }
     {
         let entry = self.new_entry(keys);
