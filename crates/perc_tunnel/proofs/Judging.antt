@@ -149,7 +149,7 @@ short_form x h kind small zero = elim (cases_eq x 1) [
   ]
 ]
 
--- the places behind the length
+-- the octets behind the length
 behind_three : (form : Form) (n : ℕ) (xs : List ℕ) → length xs < 3 → HoldEach (fixed_in_body form n) xs
 behind_three Profiles n xs short = (λ lt. absurd (omega arith), (λ lt. absurd (omega arith), tt))
 behind_three Version n xs short = tt
@@ -187,22 +187,21 @@ judged_short_part (x ∷ h ∷ l ∷ xs) some short fits kind zero = absurd (ome
 
 -- a type that has short bodies alone
 short_below : (x n : ℕ) → IsShortKind x → IsLength x n → n < 256
-short_below x n short is = elim is [
-  | inl a ↦ let k : x ≡ 1 = a.0 in absurd (not_one k)
-  | inr a ↦ elim a [
-    | inl b ↦ omega (arith, b.1)
-    | inr b ↦ elim b [
-      | inl c ↦ elim c.1 [ inl d ↦ omega arith | inr d ↦ omega arith ]
-      | inr c ↦ elim c [ inl d ↦ let k : x ≡ 4 = d.0 in absurd (not_four k) | inr d ↦ omega (arith, d.1) ]
-    ]
-  ]
-]
+short_below x n short is = let f = length_form x n is in below f.0 f.1 f.2
   where
     not_one : x ≡ 1 → ⊥
     not_one k = elim short [ inl a ↦ omega arith | inr a ↦ elim a [ inl b ↦ omega arith | inr b ↦ omega arith ] ]
 
     not_four : x ≡ 4 → ⊥
     not_four k = elim short [ inl a ↦ omega arith | inr a ↦ elim a [ inl b ↦ omega arith | inr b ↦ omega arith ] ]
+
+    below : (form : Form) → kind_of form ≡ x → HasLength form n → n < 256
+    below Profiles k h = absurd (not_one (sym k))
+    below Version k h = omega (arith, h)
+    below (Keys Aes128) k h = omega (arith, h)
+    below (Keys Aes256) k h = omega (arith, h)
+    below Record k h = absurd (not_four (sym k))
+    below Ended k h = omega (arith, h)
 
 short_is_kind : (x : ℕ) → IsShortKind x → IsKind x
 short_is_kind x short =

@@ -3,8 +3,8 @@ pub mod Options
 pub mod Pieces
 pub mod Ranges
 pub mod Steps
+pub mod Written
 pub mod Whole
 pub mod Suiting
 pub mod Judging
 pub mod Streams
-pub mod Written

@@ -8,7 +8,7 @@ use Rattle.perc_tunnel.specs.declared.decoder.TunnelFault.{TunnelFault}
 use Rattle.perc_tunnel.specs.declared.forms.Form.{Form}
 use Rattle.perc_tunnel.specs.Message.{TunnelMessage, IsMessage, spelling}
 use Rattle.perc_tunnel.specs.Stream.{BeginsWithMessage, IsPart, IsStream, IsFaultyAt, HasReason}
-use Rattle.perc_tunnel.specs.Decoding.{Decoding, fed, taken, Decodes, Call, Feed, Next, given_by, Leads, IsExact, fresh}
+use Rattle.perc_tunnel.specs.Decoding.{Decoding, fed, taken, Decodes, Call, Feed, Next, given_by, Leads, IsExact, AnswersAfter, IsExactAnswer, fresh}
 use Rattle.perc_tunnel.specs.Forms.{kind_of, form_at, Suits, message_at}
 use Rattle.perc_tunnel.proofs.Suiting.{form_told, length_fits, Suits-front}
 use Rattle.perc_tunnel.proofs.Whole.{form_in, read_again}
@@ -100,7 +100,7 @@ never_both q ms ns r s octets p g =
 -- ---- any calls
 
 -- a feed
-exact_fed : (stream : List ℕ) (messages : List TunnelMessage) (d : Decoding) (piece : List ℕ) → IsExact stream messages d
+pub exact_fed : (stream : List ℕ) (messages : List TunnelMessage) (d : Decoding) (piece : List ℕ) → IsExact stream messages d
     → IsExact (stream ++ take (taken d (length piece)) piece) messages (fed d piece)
 exact_fed stream messages d piece is = record {
   each = is.each;
@@ -122,8 +122,19 @@ exact_fed stream messages d piece is = record {
         subst (λ h. IsFaultyAt fault.offset messages h (stream ++ part) × HasReason h fault.reason) (sym held)
         (subst (λ l. IsFaultyAt fault.offset messages d.held l × HasReason d.held fault.reason) (sym octets) f)
 
+-- a fault
+pub exact_fault : (stream : List ℕ) (messages : List TunnelMessage) (d new : Decoding) (fault : TunnelFault) → IsExact stream messages d → Decodes d (Err fault) new
+    → IsFaultyAt fault.offset messages d.held stream × HasReason d.held fault.reason
+exact_fault stream messages d new fault is h = elim h.1 [
+  | inl e ↦ subst (λ o. IfSome o (λ found. IsFaultyAt found.offset messages d.held stream × HasReason d.held found.reason)) e is.fault
+  | inr f ↦ (
+    record { each = is.each; octets = is.octets; offset = f.offset ∙ is.given; no_message = f.no_message; no_part = f.no_part },
+    f.reason,
+  )
+]
+
 -- a call for the next message
-exact_next : (stream : List ℕ) (messages : List TunnelMessage) (d new : Decoding) (answer : Result (Option TunnelMessage) TunnelFault) → IsExact stream messages d
+pub exact_next : (stream : List ℕ) (messages : List TunnelMessage) (d new : Decoding) (answer : Result (Option TunnelMessage) TunnelFault) → IsExact stream messages d
     → Decodes d answer new → IsExact stream (messages ++ given_by answer) new
 exact_next stream messages d new (Ok (Some m)) is h =
     let flat : flat_map spelling (messages ++ m ∷ []) ≡ flat_map spelling messages ++ spelling m =
@@ -140,13 +151,7 @@ exact_next stream messages d new (Ok (Some m)) is h =
 exact_next stream messages d new (Ok None) is h =
     subst (λ l. IsExact stream l new) (sym (append-nil messages)) (subst (IsExact stream messages) (sym h.2) is)
 exact_next stream messages d new (Err fault) is h =
-    let at : IsFaultyAt fault.offset messages d.held stream × HasReason d.held fault.reason = elim h.1 [
-      | inl e ↦ subst (λ o. IfSome o (λ found. IsFaultyAt found.offset messages d.held stream × HasReason d.held found.reason)) e is.fault
-      | inr f ↦ (
-        record { each = is.each; octets = is.octets; offset = f.offset ∙ is.given; no_message = f.no_message; no_part = f.no_part },
-        f.reason,
-      )
-    ] in
+    let at = exact_fault stream messages d new fault is h in
     let known : IsExact stream messages (record d { fault = Some fault }) = record { each = is.each; octets = is.octets; given = is.given; fault = at } in
     subst (λ l. IsExact stream l new) (sym (append-nil messages)) (subst (IsExact stream messages) (sym h.0) known)
 
@@ -171,3 +176,54 @@ pub any_pieces : (calls : List Call) (octets : List ℕ) (messages : List Tunnel
 any_pieces calls octets messages d leads =
     let start : IsExact [] [] fresh = record { each = All-nil IsMessage; octets = refl; given = refl; fault = tt } in
     exact_after calls [] octets [] messages fresh d start leads
+
+-- ---- the next answer
+
+abbrev Answer : Type 0
+Answer = Result (Option TunnelMessage) TunnelFault
+
+not_none : (m : TunnelMessage) (a : Answer) → a ≡ Ok (Some m) → a ≡ Ok None → ⊥
+not_none m a e f = cc
+
+not_fault : (o : Option TunnelMessage) (g : TunnelFault) (a : Answer) → a ≡ Ok o → a ≡ Err g → ⊥
+not_fault o g a e f = cc
+
+same_message : (m k : TunnelMessage) (a : Answer) → a ≡ Ok (Some m) → a ≡ Ok (Some k) → m ≡ k
+same_message m k a e f = cc
+
+same_fault : (f g : TunnelFault) (a : Answer) → a ≡ Err f → a ≡ Err g → f ≡ g
+same_fault f g a e h = cc
+
+pub exact_answer : (stream : List ℕ) (messages : List TunnelMessage) (d new : Decoding) (answer : Result (Option TunnelMessage) TunnelFault) → IsExact stream messages d
+    → Decodes d answer new → IsExactAnswer stream messages d.held answer
+exact_answer stream messages d new (Ok (Some m)) is h =
+    let begins : BeginsWithMessage d.held = (m, new.held, h.1, h.2) in
+    record {
+      none = (λ e. absurd (not_none m (Ok (Some m)) refl e), λ s. absurd (no_part_begins d.held begins s.part));
+      message = λ k. (
+        λ e. let same : m ≡ k = same_message m k (Ok (Some m)) refl e in
+        (subst IsMessage same h.1, new.held, h.2 ∙ ap (λ (z : TunnelMessage). spelling z ++ new.held) same),
+        λ b. ap (λ (z : TunnelMessage). Ok (Some z)) (one_message m k new.held b.1 h.1 b.0 (sym h.2 ∙ b.2)).0,
+      );
+      fault = λ offset. (λ f. absurd (not_fault (Some m) f.0 (Ok (Some m)) refl f.1), λ f. absurd (f.no_message begins));
+    }
+exact_answer stream messages d new (Ok None) is h = record {
+  none = (λ _. record { each = is.each; octets = is.octets; part = h.1 }, λ _. refl);
+  message = λ k. (λ e. absurd (not_none k (Ok None) e refl), λ b. absurd (no_part_begins d.held (k, b.1, b.0, b.2) h.1));
+  fault = λ offset. (λ f. absurd (not_fault None f.0 (Ok None) refl f.1), λ f. absurd (f.no_part h.1));
+}
+exact_answer stream messages d new (Err fault) is h =
+    let at = exact_fault stream messages d new fault is h in
+    record {
+      none = (λ e. absurd (not_fault None fault (Err fault) e refl), λ s. absurd (at.0.no_part s.part));
+      message = λ k. (λ e. absurd (not_fault (Some k) fault (Err fault) e refl), λ b. absurd (at.0.no_message (k, b.1, b.0, b.2)));
+      fault = λ offset. (
+        λ f. subst (λ p. IsFaultyAt p messages d.held stream) (ap (λ (g : TunnelFault). g.offset) (same_fault fault f.0 (Err fault) refl f.1) ∙ f.2) at.0,
+        λ f. (fault, refl, at.0.offset ∙ sym f.offset),
+      );
+    }
+
+pub next_answer : (calls : List Call) (octets : List ℕ) (messages : List TunnelMessage) (d : Decoding) (answer : Result (Option TunnelMessage) TunnelFault)
+    → AnswersAfter calls octets messages d answer → IsExactAnswer octets messages d.held answer
+next_answer calls octets messages d answer a =
+    exact_answer octets messages d a.new answer (any_pieces calls octets messages d a.leads) a.decodes

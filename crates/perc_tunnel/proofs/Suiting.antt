@@ -8,10 +8,11 @@ use Rattle.perc_base.specs.Profile.{profile_number, key_length}
 use Rattle.perc_base.specs.declared.profile.Profile.TheVariants.{Aes128, Aes256}
 use Rattle.perc_tunnel.specs.declared.forms.Form.{Form}
 use Rattle.perc_tunnel.specs.declared.forms.Form.TheVariants.{Profiles, Version, Keys, Record, Ended}
-use Rattle.perc_tunnel.specs.Message.{AreOctets, spelling}
+use Rattle.perc_tunnel.specs.Message.{TunnelMessage, SupportedProfiles, UnsupportedVersion, MediaKeys, TunneledDtls, EndpointDisconnect, AreOctets, type_of, spelling}
 use Rattle.perc_tunnel.specs.Stream.{BeginsWithMessage, IsPart, IsKind, IsLength}
 use Rattle.perc_tunnel.specs.Forms.{kind_of, HasLength, form_at, HoldEach, fixed, Suits, IsWhole, message_at}
 use Rattle.perc_tunnel.proofs.Whole.{form_in, read_again, whole_message}
+use Rattle.perc_tunnel.proofs.Written.{spelling-length}
 
 -- ---- a form by its type and its length
 
@@ -32,30 +33,22 @@ length_fits (Keys Aes256) n h = omega arith
 length_fits Record n h = h.1
 length_fits Ended n h = omega arith
 
--- the length that a form has is one of its type
-pub length_is : (form : Form) (n : ℕ) → HasLength form n → IsLength (kind_of form) n
-length_is Profiles n h = inl (refl, h.0, h.1, h.2)
-length_is Version n h = inr (inl (refl, h))
-length_is (Keys Aes128) n h = inr (inr (inl (refl, inl h)))
-length_is (Keys Aes256) n h = inr (inr (inl (refl, inr h)))
-length_is Record n h = inr (inr (inr (inl (refl, h.0, h.1))))
-length_is Ended n h = inr (inr (inr (inr (refl, h))))
-
--- and each length of a type is that of a form
+-- each length of a type is that of a form
 abbrev pub IsForm : ℕ → ℕ → Type 0
 IsForm kind n = (form : Form) × (kind_of form ≡ kind) × HasLength form n
 
+form_kind : (m : TunnelMessage) → kind_of (form_in m) ≡ type_of m
+form_kind (SupportedProfiles version profiles) = refl
+form_kind (UnsupportedVersion highest) = refl
+form_kind (MediaKeys association profile client server) = refl
+form_kind (TunneledDtls association octets) = refl
+form_kind (EndpointDisconnect association) = refl
+
 pub length_form : (kind n : ℕ) → IsLength kind n → IsForm kind n
-length_form kind n h = elim h [
-  | inl a ↦ (Profiles, sym a.0, (a.1, a.2, a.3))
-  | inr a ↦ elim a [
-    | inl b ↦ (Version, sym b.0, b.1)
-    | inr b ↦ elim b [
-      | inl c ↦ elim c.1 [ inl d ↦ (Keys Aes128, sym c.0, d) | inr d ↦ (Keys Aes256, sym c.0, d) ]
-      | inr c ↦ elim c [ inl d ↦ (Record, sym d.0, (d.1, d.2)) | inr d ↦ (Ended, sym d.0, d.1) ]
-    ]
-  ]
-]
+length_form kind n h =
+    let v = read_again h.0 h.1 in
+    let same : v.0.0 ≡ n = omega (arith, v.0.2, spelling-length h.0 h.1, h.3) in
+    (form_in h.0, form_kind h.0 ∙ h.2, subst (HasLength (form_in h.0)) same v.0.1.length)
 
 pub kind_is : (form : Form) → IsKind (kind_of form)
 kind_is Profiles = (omega arith, omega arith)
@@ -68,7 +61,7 @@ kind_is Ended = (omega arith, omega arith)
 
 abbrev Below : ℕ → List (ℕ × ℕ) → Type 0
 Below n [] = Unit {0}
-Below n (one ∷ places) = (one.0 < n) × Below n places
+Below n (one ∷ offsets) = (one.0 < n) × Below n offsets
 
 fixed_below : (form : Form) (n : ℕ) → HasLength form n → Below (3 + n) (fixed form n)
 fixed_below Profiles n h = let a = h.1 in (omega arith, (omega arith, (omega arith, (omega arith, (omega arith, tt)))))
@@ -80,21 +73,21 @@ fixed_below (Keys profile) n h = (
 fixed_below Record n h = let a = h.0 in (omega arith, (omega arith, (omega arith, (omega arith, (omega arith, tt)))))
 fixed_below Ended n h = (omega arith, (omega arith, (omega arith, tt)))
 
-HoldEach-front : (places : List (ℕ × ℕ)) (xs ys : List ℕ) → HoldEach places (xs ++ ys) → HoldEach places xs
+HoldEach-front : (offsets : List (ℕ × ℕ)) (xs ys : List ℕ) → HoldEach offsets (xs ++ ys) → HoldEach offsets xs
 HoldEach-front [] xs ys h = tt
-HoldEach-front (one ∷ places) xs ys h = (
+HoldEach-front (one ∷ offsets) xs ys h = (
   λ lt. sym (get_or_append_left xs ys 0 one.0 lt) ∙ h.0 (omega (arith, length-append xs ys)),
-  HoldEach-front places xs ys h.1,
+  HoldEach-front offsets xs ys h.1,
 )
 
-HoldEach-more : (places : List (ℕ × ℕ)) (xs ys : List ℕ) → Below (length xs) places → HoldEach places xs → HoldEach places (xs ++ ys)
+HoldEach-more : (offsets : List (ℕ × ℕ)) (xs ys : List ℕ) → Below (length xs) offsets → HoldEach offsets xs → HoldEach offsets (xs ++ ys)
 HoldEach-more [] xs ys below h = tt
-HoldEach-more (one ∷ places) xs ys below h =
-    (λ _. get_or_append_left xs ys 0 one.0 below.0 ∙ h.0 below.0, HoldEach-more places xs ys below.1 h.1)
+HoldEach-more (one ∷ offsets) xs ys below h =
+    (λ _. get_or_append_left xs ys 0 one.0 below.0 ∙ h.0 below.0, HoldEach-more offsets xs ys below.1 h.1)
 
-HoldEach-filled : (places : List (ℕ × ℕ)) (xs t : List ℕ) → Below (length t) places → HoldEach places t → HoldEach places xs → HoldEach places (xs ++ drop (length xs) t)
+HoldEach-filled : (offsets : List (ℕ × ℕ)) (xs t : List ℕ) → Below (length t) offsets → HoldEach offsets t → HoldEach offsets xs → HoldEach offsets (xs ++ drop (length xs) t)
 HoldEach-filled [] xs t below h g = tt
-HoldEach-filled (one ∷ places) xs t below h g = (
+HoldEach-filled (one ∷ offsets) xs t below h g = (
   λ _. elim (cases_lt one.0 (length xs)) [
     | inl lt ↦ get_or_append_left xs (drop (length xs) t) 0 one.0 lt ∙ g.0 lt
     | inr le ↦
@@ -102,7 +95,7 @@ HoldEach-filled (one ∷ places) xs t below h g = (
         get_or-append_right xs (drop (length xs) t) (length xs) one.0 0 refl le ∙ get_or-drop (length xs) t (one.0 - length xs) 0
         ∙ ap (λ (k : ℕ). get_or t k 0) same ∙ h.0 below.0
   ],
-  HoldEach-filled places xs t below.1 h.1 g.1,
+  HoldEach-filled offsets xs t below.1 h.1 g.1,
 )
 
 pub Suits-front : (form : Form) (n : ℕ) (xs ys : List ℕ) → Suits form n (xs ++ ys) → Suits form n xs
@@ -213,3 +206,19 @@ suits_part form n xs fits s short =
     ) in
     let m = whole_message form (xs ++ rest) all w in
     (message_at form (xs ++ rest), rest, m.0, omega (arith, left), m.1)
+
+-- the length that a form has is one of its type
+type_at : (form : Form) (xs : List ℕ) → type_of (message_at form xs) ≡ kind_of form
+type_at Profiles xs = refl
+type_at Version xs = refl
+type_at (Keys profile) xs = refl
+type_at Record xs = refl
+type_at Ended xs = refl
+
+pub length_is : (form : Form) (n : ℕ) → HasLength form n → IsLength (kind_of form) n
+length_is form n h =
+    let t : List ℕ = template form n in
+    let size : length t ≡ 3 + n = template-length form n h in
+    let w : IsWhole form t = (n, record { length = h; fixed = template_fixed form n }, size) in
+    let m = whole_message form t (template_octets form n).each w in
+    (message_at form t, m.0, type_at form t, omega (arith, spelling-length (message_at form t) m.0, ap length m.1, size))

@@ -4,8 +4,7 @@ use Rattle.std.proofs.lemmas.List.{append-nil, take_at, drop_at, take_rest, drop
 use borrow.Rule.Slice.PartMut.{put_mid, mid_of}
 use Rattle.byteorder.specs.Endian.{big_bytes}
 use Rattle.perc_base.specs.Profile.{profile_number}
-use Rattle.perc_tunnel.specs.Message.{TunnelMessage, SupportedProfiles, UnsupportedVersion, MediaKeys, TunneledDtls, EndpointDisconnect, IsMessage, counted, body, spelling}
-use Rattle.perc_tunnel.specs.Forms.{body_size}
+use Rattle.perc_tunnel.specs.Message.{TunnelMessage, SupportedProfiles, UnsupportedVersion, MediaKeys, TunneledDtls, EndpointDisconnect, IsMessage, counted, body, spelling, body_length, HasLengths, message_length}
 use Rattle.perc_tunnel.proofs.Octets.{flat-length}
 use Rattle.perc_tunnel.proofs.Pieces.{seven_parts}
 
@@ -35,7 +34,7 @@ set_first old y fits = set_more [] old old 0 y refl fits refl
 pub counted-length : (octets : List ℕ) (n : ℕ) → length octets ≡ n → length (counted octets) ≡ 1 + n
 counted-length octets n e = omega (arith, e)
 
-pub body-length : (m : TunnelMessage) → IsMessage m → length (body m) ≡ body_size m
+pub body-length : (m : TunnelMessage) → IsMessage m → length (body m) ≡ body_length m
 unfolding body
 body-length (SupportedProfiles version profiles) is = omega (arith, flat-length profiles)
 body-length (UnsupportedVersion highest) is = refl
@@ -54,9 +53,16 @@ body-length (TunneledDtls association octets) is =
     omega (arith, length-append (association ++ big_bytes 2 (length octets)) octets, length-append association (big_bytes 2 (length octets)))
 body-length (EndpointDisconnect association) is = is.0
 
-pub spelling-length : (m : TunnelMessage) → IsMessage m → length (spelling m) ≡ 3 + body_size m
+pub spelling-length : (m : TunnelMessage) → IsMessage m → length (spelling m) ≡ message_length m
 unfolding spelling
 spelling-length m is = omega (arith, body-length m is)
+
+pub has_lengths : (m : TunnelMessage) → IsMessage m → HasLengths m
+has_lengths (SupportedProfiles version profiles) is = (is.1, is.2)
+has_lengths (UnsupportedVersion highest) is = tt
+has_lengths (MediaKeys association profile client server) is = (is.1.key, is.2.key)
+has_lengths (TunneledDtls association octets) is = (is.1, is.2)
+has_lengths (EndpointDisconnect association) is = tt
 
 -- keys, of which the name, the number and the zero stand in front
 pub keys_written : (a ck sk cs ss old o1 p1 p2 p3 p4 : List ℕ) (n k : ℕ) → length a ≡ 16 → length ck ≡ k → length sk ≡ k → length cs ≡ 12 → length ss ≡ 12

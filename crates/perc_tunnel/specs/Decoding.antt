@@ -1,9 +1,9 @@
 -- A decoder of a stream of messages: what it holds, and what its calls do.
-use Rattle.std.specs.Prelude.{◌≡◌, ℕ, ◌+◌, ◌-◌, ◌^◌, ◌⊎◌, min, List, [], ◌∷◌, ◌++◌, length, take, Option, Some, None, IfSome, Result, Ok, Err}
+use Rattle.std.specs.Prelude.{◌≡◌, ℕ, ◌+◌, ◌-◌, ◌^◌, ◌⊎◌, ◌↔◌, min, List, [], ◌∷◌, ◌++◌, length, take, Option, Some, None, IfSome, Result, Ok, Err}
 use Rattle.std.specs.List.{flat_map, All}
 use Rattle.perc_tunnel.specs.declared.decoder.TunnelFault.{TunnelFault}
 use Rattle.perc_tunnel.specs.Message.{TunnelMessage, IsMessage, spelling}
-use Rattle.perc_tunnel.specs.Stream.{BeginsWithMessage, IsPart, IsFaultyAt, HasReason}
+use Rattle.perc_tunnel.specs.Stream.{BeginsWithMessage, IsPart, IsStream, IsFaultyAt, HasReason}
 
 -- what a decoder has come to
 pub record Decoding : Type 0 where
@@ -76,3 +76,16 @@ pub record IsExact (stream : List ℕ) (messages : List TunnelMessage) (d : Deco
   pub octets : stream ≡ flat_map spelling messages ++ d.held
   pub given : d.given ≡ length (flat_map spelling messages)
   pub fault : IfSome d.fault (λ fault. IsFaultyAt fault.offset messages d.held stream × HasReason d.held fault.reason)
+
+-- A new decoder was called so, took these octets and gave these messages, and to a further call it gives this answer.
+pub record AnswersAfter (calls : List Call) (octets : List ℕ) (messages : List TunnelMessage) (d : Decoding) (answer : Result (Option TunnelMessage) TunnelFault) : Type 0 where
+  pub leads : Leads fresh calls octets messages d
+  pub new : Decoding
+  pub decodes : Decodes d answer new
+
+-- The answer is None exactly where the stream is the messages and a proper prefix of one more, a message exactly where it
+-- stands behind them, and a fault at an offset exactly where the stream goes wrong there.
+pub record IsExactAnswer (stream : List ℕ) (messages : List TunnelMessage) (held : List ℕ) (answer : Result (Option TunnelMessage) TunnelFault) : Type 0 where
+  pub none : (answer ≡ Ok None) ↔ IsStream messages held stream
+  pub message : (m : TunnelMessage) → (answer ≡ Ok (Some m)) ↔ (IsMessage m × (after : List ℕ) × (held ≡ spelling m ++ after))
+  pub fault : (offset : ℕ) → ((f : TunnelFault) × (answer ≡ Err f) × (f.offset ≡ offset)) ↔ IsFaultyAt offset messages held stream

@@ -43,20 +43,20 @@ form_at kind n =
     else (if kind == 4 then (if nat_le 19 n then Some Record else None)
     else (if kind == 5 then (if n == 16 then Some Ended else None) else None))))
 
--- This octet stands at the place, once that is held.
+-- This octet stands at the offset, once that is held.
 abbrev pub Holds : List ℕ → ℕ → ℕ → Type 0
-Holds octets place octet = place < length octets → slice_index octets place ≡ octet
+Holds octets offset octet = offset < length octets → slice_index octets offset ≡ octet
 
--- So for each place with its octet.
+-- So for each offset with its octet.
 abbrev pub HoldEach : List (ℕ × ℕ) → List ℕ → Type 0
 HoldEach [] octets = Unit {0}
 HoldEach (one ∷ more) octets = Holds octets one.0 one.1 × HoldEach more octets
 
--- the number in two octets from this place on
+-- the number in two octets from this offset on
 abbrev pub number_at : ℕ → ℕ → List (ℕ × ℕ) → List (ℕ × ℕ)
-number_at place x more = (place, x / 256 % 256) ∷ (place + 1, x % 256) ∷ more
+number_at offset x more = (offset, x / 256 % 256) ∷ (offset + 1, x % 256) ∷ more
 
--- which octets of a message of this form and length are fixed behind its length, with their places
+-- which octets of a message of this form and length are fixed behind its length, with their offsets
 abbrev pub fixed_in_body : Form → ℕ → List (ℕ × ℕ)
 fixed_in_body Profiles n = number_at 4 (n - 3) []
 fixed_in_body Version n = []
@@ -100,11 +100,3 @@ message_at Ended octets = EndpointDisconnect (take 16 (drop 3 octets))
 -- No message of this type has 256 octets in its body.
 abbrev pub IsShortKind : ℕ → Type 0
 IsShortKind kind = (kind ≡ 2) ⊎ ((kind ≡ 3) ⊎ (kind ≡ 5))
-
--- how many octets the body of a message has
-abbrev pub body_size : TunnelMessage → ℕ
-body_size (SupportedProfiles version profiles) = 3 + 2 * length profiles
-body_size (UnsupportedVersion highest) = 1
-body_size (MediaKeys association profile client server) = 47 + 2 * key_length profile
-body_size (TunneledDtls association octets) = 18 + length octets
-body_size (EndpointDisconnect association) = 16

@@ -1,6 +1,6 @@
 -- The messages between a media distributor and a key distributor, after RFC 9185. Their layout is this product's own: a
 -- type of one octet, the length of the body in two, and the body. Numbers are big-endian.
-use Rattle.std.specs.Prelude.{◌≡◌, ℕ, ◌*◌, ◌^◌, ◌<◌, ◌≤◌, List, [], ◌∷◌, ◌++◌, length}
+use Rattle.std.specs.Prelude.{◌≡◌, ℕ, ◌+◌, ◌*◌, ◌^◌, ◌<◌, ◌≤◌, List, [], ◌∷◌, ◌++◌, length}
 use Rattle.std.specs.List.{flat_map, All}
 use Rattle.byteorder.specs.Endian.{big_bytes}
 use Rattle.perc_base.specs.Profile.{profile_number, key_length}
@@ -38,6 +38,31 @@ IsMessage (MediaKeys association profile client server) =
 IsMessage (TunneledDtls association octets) =
     IsAssociation association × (1 ≤ length octets) × (length octets ≤ 65517) × AreOctets octets
 IsMessage (EndpointDisconnect association) = IsAssociation association
+
+-- What of this is a matter of lengths. The rest is what octets are, and numbers of one and of two octets.
+abbrev pub HasLengths : TunnelMessage → Type 0
+HasLengths (SupportedProfiles version profiles) = (1 ≤ length profiles) × (length profiles ≤ 32766)
+HasLengths (UnsupportedVersion highest) = Unit {0}
+HasLengths (MediaKeys association profile client server) =
+    (length client.key ≡ key_length profile) × (length server.key ≡ key_length profile)
+HasLengths (TunneledDtls association octets) = (1 ≤ length octets) × (length octets ≤ 65517)
+HasLengths (EndpointDisconnect association) = Unit {0}
+
+-- how many octets the body of a message has
+abbrev pub body_length : TunnelMessage → ℕ
+body_length (SupportedProfiles version profiles) = 3 + 2 * length profiles
+body_length (UnsupportedVersion highest) = 1
+body_length (MediaKeys association profile client server) = 47 + 2 * key_length profile
+body_length (TunneledDtls association octets) = 18 + length octets
+body_length (EndpointDisconnect association) = 16
+
+-- how many octets a message has: its type, its length of two octets, and its body
+abbrev pub message_length : TunnelMessage → ℕ
+message_length m = 3 + body_length m
+
+-- The message has a spelling by its lengths, and so much room holds it.
+abbrev pub Fits : TunnelMessage → ℕ → Type 0
+Fits m room = HasLengths m × (message_length m ≤ room)
 
 -- octets behind their count, which is one octet
 abbrev pub counted : List ℕ → List ℕ

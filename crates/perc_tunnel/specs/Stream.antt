@@ -1,10 +1,10 @@
 -- A stream of messages, cut anywhere, and where it goes wrong.
-use Rattle.std.specs.Prelude.{◌≡◌, ℕ, ◌%◌, ◌^◌, ◌<◌, ◌≤◌, ◌⊎◌, List, [], ◌∷◌, ◌++◌, length, take}
+use Rattle.std.specs.Prelude.{◌≡◌, ℕ, ◌<◌, ◌≤◌, List, [], ◌∷◌, ◌++◌, length, take}
 use Rattle.std.specs.List.{flat_map, All}
 use Rattle.byteorder.specs.Endian.{big_bytes}
 use Rattle.perc_tunnel.specs.declared.decoder.TunnelReason.{TunnelReason}
 use Rattle.perc_tunnel.specs.declared.decoder.TunnelReason.TheVariants.{Kind, Length, Body}
-use Rattle.perc_tunnel.specs.Message.{TunnelMessage, IsMessage, spelling}
+use Rattle.perc_tunnel.specs.Message.{TunnelMessage, IsMessage, type_of, body_length, spelling}
 
 -- The octets begin with the spelling of a message.
 abbrev pub BeginsWithMessage : List ℕ → Type 0
@@ -20,25 +20,20 @@ pub record IsStream (messages : List TunnelMessage) (rest stream : List ℕ) : T
   pub octets : stream ≡ flat_map spelling messages ++ rest
   pub part : IsPart rest
 
--- The octets before the place are messages, and those from it on neither begin with a message nor are a part of one.
-pub record IsFaultyAt (place : ℕ) (messages : List TunnelMessage) (rest stream : List ℕ) : Type 0 where
+-- So many octets are messages, and those behind them neither begin with a message nor are a part of one.
+pub record IsFaultyAt (before : ℕ) (messages : List TunnelMessage) (rest stream : List ℕ) : Type 0 where
   pub each : All IsMessage messages
   pub octets : stream ≡ flat_map spelling messages ++ rest
-  pub offset : place ≡ length (flat_map spelling messages)
+  pub offset : before ≡ length (flat_map spelling messages)
   pub no_message : BeginsWithMessage rest → ⊥
   pub no_part : IsPart rest → ⊥
 
 abbrev pub IsKind : ℕ → Type 0
 IsKind kind = (1 ≤ kind) × (kind ≤ 5)
 
--- which lengths the body of a message of this type has
+-- A message of this type has a body of this length.
 abbrev pub IsLength : ℕ → ℕ → Type 0
-IsLength kind n =
-    ((kind ≡ 1) × (n % 2 ≡ 1) × (5 ≤ n) × (n < 2 ^ 16))
-    ⊎ (((kind ≡ 2) × (n ≡ 1))
-    ⊎ (((kind ≡ 3) × ((n ≡ 79) ⊎ (n ≡ 111)))
-    ⊎ (((kind ≡ 4) × (19 ≤ n) × (n < 2 ^ 16))
-    ⊎ ((kind ≡ 5) × (n ≡ 16)))))
+IsLength kind n = (m : TunnelMessage) × IsMessage m × (type_of m ≡ kind) × (body_length m ≡ n)
 
 -- The octets behind the type, as far as they are length octets, begin such a length.
 abbrev pub BeginsLength : ℕ → List ℕ → Type 0

@@ -59,6 +59,21 @@ impl Decoder {
         Ok(Decoder { room })
     }
 
+    /// How many octets the messages had that it gave. It is the offset in the stream at which the next message begins: where
+    /// the stream ends and octets are held, it ends inside the message at this offset.
+    pub fn given(&self) -> u64
+        ensures { result ≡ self.now.given }
+    {
+        self.room.count_given()
+    }
+
+    /// How many octets it holds: those that it took and that no message had that it gave, 65538 at most.
+    pub fn held(&self) -> usize
+        ensures { result ≡ length self.now.held }
+    {
+        self.room.count_held()
+    }
+
     /// Takes octets of the stream, from the front of the piece, and answers how many: as many as there is room for, and at
     /// most 2^64 - 1 in all. After a fault it takes none.
     pub fn feed(&mut self, piece: &[u8]) -> usize

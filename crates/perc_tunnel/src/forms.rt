@@ -131,17 +131,17 @@ fn has_fixed_in_keys(profile: Profile, octets: &[u8]) -> bool
         && holds(octets, 37 + 2 * key_len, 12)
 }
 
-// Whether the number stands at the place, as far as its octets are held.
-fn holds_number(octets: &[u8], place: usize, number: u16) -> bool
-    requires { place < 100 }
-    ensures { IsTrue result ↔ HoldEach (number_at place number []) octets.now }
+// Whether the number stands at the offset, as far as its octets are held.
+fn holds_number(octets: &[u8], offset: usize, number: u16) -> bool
+    requires { offset < 100 }
+    ensures { IsTrue result ↔ HoldEach (number_at offset number []) octets.now }
 {
-    holds(octets, place, (number / 256) as u8) && holds(octets, place + 1, (number % 256) as u8)
+    holds(octets, offset, (number / 256) as u8) && holds(octets, offset + 1, (number % 256) as u8)
 }
 
-// Whether the octet stands at the place, if that is held.
-fn holds(octets: &[u8], place: usize, octet: u8) -> bool
-    ensures { IsTrue result ↔ Holds octets.now place octet }
+// Whether the octet stands at the offset, if that is held.
+fn holds(octets: &[u8], offset: usize, octet: u8) -> bool
+    ensures { IsTrue result ↔ Holds octets.now offset octet }
 {
-    place >= octets.len() || octets[place] == octet
+    offset >= octets.len() || octets[offset] == octet
 }

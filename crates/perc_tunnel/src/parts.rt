@@ -23,14 +23,14 @@ pub(crate) fn keys_of(profile: Profile, octets: &[u8]) -> MediaKeys
     }
 }
 
-// The key of the profile's length at one place, with the salt at another.
-fn half_at(profile: Profile, octets: &[u8], key_place: usize, salt_place: usize) -> Master
-    requires key { key_place + key_length profile ≤ length octets.now }
-    requires salt { salt_place + 12 ≤ length octets.now }
-    ensures { result ≡ record { key = take (key_length profile) (drop key_place octets.now); salt = take 12 (drop salt_place octets.now) } }
+// The key of the profile's length at one offset, with the salt at another.
+fn half_at(profile: Profile, octets: &[u8], key_offset: usize, salt_offset: usize) -> Master
+    requires key { key_offset + key_length profile ≤ length octets.now }
+    requires salt { salt_offset + 12 ≤ length octets.now }
+    ensures { result ≡ record { key = take (key_length profile) (drop key_offset octets.now); salt = take 12 (drop salt_offset octets.now) } }
 {
-    let key = part(octets, key_place, profile.key_len());
-    Master::new(key, &salt_at(octets, salt_place)).unwrap()
+    let key = part(octets, key_offset, profile.key_len());
+    Master::new(key, &salt_at(octets, salt_offset)).unwrap()
 }
 
 // The association's name, which stands behind the length.
@@ -43,20 +43,20 @@ pub(crate) fn association_of(octets: &[u8]) -> [u8; 16]
     association
 }
 
-// The salt at this place.
-fn salt_at(octets: &[u8], place: usize) -> [u8; 12]
-    requires { place + 12 ≤ length octets.now }
-    ensures { result ≡ take 12 (drop place octets.now) }
+// The salt at this offset.
+fn salt_at(octets: &[u8], offset: usize) -> [u8; 12]
+    requires { offset + 12 ≤ length octets.now }
+    ensures { result ≡ take 12 (drop offset octets.now) }
 {
     let mut salt = [0; 12];
-    salt.copy_from_slice(part(octets, place, 12));
+    salt.copy_from_slice(part(octets, offset, 12));
     salt
 }
 
-// The octets from this place, `len` of them.
-fn part(octets: &[u8], place: usize, len: usize) -> &[u8]
-    requires { place + len ≤ length octets.now }
-    ensures { result.now ≡ take len (drop place octets.now) }
+// The octets from this offset, `len` of them.
+fn part(octets: &[u8], offset: usize, len: usize) -> &[u8]
+    requires { offset + len ≤ length octets.now }
+    ensures { result.now ≡ take len (drop offset octets.now) }
 {
-    &octets[place..place + len]
+    &octets[offset..offset + len]
 }

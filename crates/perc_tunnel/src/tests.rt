@@ -168,6 +168,8 @@ fn in_two(rt: &impl Abort, alloc: Global, stream: &[u8], cut: usize) -> Result<S
         );
     }
     assert_eq!(rt; written.as_slice(), stream);
+    assert_eq!(rt; decoder.given(), stream.len() as u64);
+    assert_eq!(rt; decoder.held(), 0);
     Ok(text)
 }
 

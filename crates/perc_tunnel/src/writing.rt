@@ -1,10 +1,9 @@
 // Messages written.
-ghost use Rattle.std.specs.Prelude.{◌≡◌, ◌+◌, ◌*◌, ◌^◌, ◌<◌, ◌≤◌, ◌++◌, ◌∷◌, ◌↔◌, length, drop, SomeIff, IfSome, IfNone, IsTrue};
+ghost use Rattle.std.specs.Prelude.{◌≡◌, ◌+◌, ◌*◌, ◌^◌, ◌<◌, ◌≤◌, ◌++◌, ◌∷◌, ◌↔◌, length, drop, SomeIff, IfSome, IfNone, OnSome, IsTrue};
 ghost use Rattle.byteorder.specs.Endian.{big_bytes};
 ghost use Rattle.perc_base.specs.Profile.{key_length};
-ghost use Rattle.perc_tunnel.specs.Message.{body, counted, IsAssociation, IsHalf, IsMessage, spelling, type_of, AreOctets};
+ghost use Rattle.perc_tunnel.specs.Message.{body, body_length, counted, Fits, HasLengths, IsAssociation, IsHalf, IsMessage, message_length, spelling, type_of, AreOctets};
 ghost use Rattle.perc_tunnel.specs.Message as spec;
-ghost use Rattle.perc_tunnel.specs.Forms.{body_size};
 ghost use Rattle.perc_tunnel.specs.Told.{content_of, numbers_of};
 
 use super::Message;
@@ -14,10 +13,11 @@ use perc_base::Profile;
 use perc_kdf::Master;
 
 /// Writes a message to the front of `out`, and answers its length: 3 octets and its body's. What stands behind it in `out`
-/// stays. None where `out` is too short, or the message has no spelling: a list of no profile or of more than 32766, a key
-/// that hasn't the profile's length, a record of no octet or of more than 65517. Then `out` is as it was.
+/// stays. None exactly where `out` is too short, or the message has no spelling: a list of no profile or of more than 32766, a
+/// key that hasn't the profile's length, a record of no octet or of more than 65517. Then `out` is as it was.
 pub fn write(message: &Message<'_>, out: &mut [u8]) -> Option<usize>
-    ensures length { SomeIff result (IsMessage (content_of message.now) × (length (spelling (content_of message.now)) ≤ length out.old)) (length (spelling (content_of message.now))) }
+    ensures length { SomeIff result (Fits (content_of message.now) (length out.old)) (message_length (content_of message.now)) }
+    ensures message { OnSome result (IsMessage (content_of message.now) × (length (spelling (content_of message.now)) ≡ message_length (content_of message.now))) }
     ensures value { IfSome result (λ n. out.new ≡ spelling (content_of message.now) ++ drop n out.old) }
     ensures none { IfNone result (out.new ≡ out.old) }
 {
@@ -32,7 +32,8 @@ pub fn write(message: &Message<'_>, out: &mut [u8]) -> Option<usize>
 
 // How many octets the body has, where the message has a spelling.
 fn body_len(message: &Message<'_>) -> Option<usize>
-    ensures { SomeIff result (IsMessage (content_of message.now)) (body_size (content_of message.now)) }
+    ensures length { SomeIff result (HasLengths (content_of message.now)) (body_length (content_of message.now)) }
+    ensures message { OnSome result (IsMessage (content_of message.now)) }
 {
     match message {
         Message::SupportedProfiles { version, profiles } => profiles_len(*version, profiles),
@@ -47,7 +48,8 @@ fn body_len(message: &Message<'_>) -> Option<usize>
 }
 
 fn profiles_len(version: u8, profiles: &ProfileList<'_>) -> Option<usize>
-    ensures { SomeIff result (IsMessage (spec.SupportedProfiles version (numbers_of profiles.now))) (3 + 2 * length (numbers_of profiles.now)) }
+    ensures length { SomeIff result (HasLengths (spec.SupportedProfiles version (numbers_of profiles.now))) (3 + 2 * length (numbers_of profiles.now)) }
+    ensures message { OnSome result (IsMessage (spec.SupportedProfiles version (numbers_of profiles.now))) }
 {
     let octets = profiles.octets();
     if matches!(octets.len(), 1..=65532) {
@@ -58,13 +60,15 @@ fn profiles_len(version: u8, profiles: &ProfileList<'_>) -> Option<usize>
 }
 
 fn version_len(highest: u8) -> Option<usize>
-    ensures { SomeIff result (IsMessage (spec.UnsupportedVersion highest)) 1 }
+    ensures length { SomeIff result (HasLengths (spec.UnsupportedVersion highest)) 1 }
+    ensures message { OnSome result (IsMessage (spec.UnsupportedVersion highest)) }
 {
     Some(1)
 }
 
 fn keys_len(keys: &MediaKeys) -> Option<usize>
-    ensures { SomeIff result (IsMessage (spec.MediaKeys keys.now.association keys.now.profile keys.now.client keys.now.server)) (47 + 2 * key_length keys.now.profile) }
+    ensures length { SomeIff result (HasLengths (spec.MediaKeys keys.now.association keys.now.profile keys.now.client keys.now.server)) (47 + 2 * key_length keys.now.profile) }
+    ensures message { OnSome result (IsMessage (spec.MediaKeys keys.now.association keys.now.profile keys.now.client keys.now.server)) }
 {
     let association = association_len(&keys.association);
     if is_half(keys.profile, &keys.client) && is_half(keys.profile, &keys.server) {
@@ -76,7 +80,8 @@ fn keys_len(keys: &MediaKeys) -> Option<usize>
 
 fn record_len(association: &[u8], octets: &[u8]) -> Option<usize>
     requires { length association.now ≡ 16 }
-    ensures { SomeIff result (IsMessage (spec.TunneledDtls association.now octets.now)) (18 + length octets.now) }
+    ensures length { SomeIff result (HasLengths (spec.TunneledDtls association.now octets.now)) (18 + length octets.now) }
+    ensures message { OnSome result (IsMessage (spec.TunneledDtls association.now octets.now)) }
 {
     if matches!(octets.len(), 1..=65517) {
         Some(association_len(association) + 2 + octets.len())
@@ -87,7 +92,8 @@ fn record_len(association: &[u8], octets: &[u8]) -> Option<usize>
 
 fn ended_len(association: &[u8]) -> Option<usize>
     requires { length association.now ≡ 16 }
-    ensures { SomeIff result (IsMessage (spec.EndpointDisconnect association.now)) 16 }
+    ensures length { SomeIff result (HasLengths (spec.EndpointDisconnect association.now)) 16 }
+    ensures message { OnSome result (IsMessage (spec.EndpointDisconnect association.now)) }
 {
     Some(association_len(association))
 }
@@ -103,7 +109,8 @@ fn association_len(association: &[u8]) -> usize
 
 // Whether the key has the profile's length.
 fn is_half(profile: Profile, half: &Master) -> bool
-    ensures { IsTrue result ↔ IsHalf profile half.now }
+    ensures length { IsTrue result ↔ (length half.now.key ≡ key_length profile) }
+    ensures is { IsTrue result → IsHalf profile half.now }
 {
     has_len(half.key(), profile.key_len()) && has_len(half.salt(), 12)
 }
@@ -135,8 +142,8 @@ fn write_head(message: &Message<'_>, len: usize, out: &mut [u8])
 // Writes the body of a message.
 fn write_body(message: &Message<'_>, out: &mut [u8])
     requires message { IsMessage (content_of message.now) }
-    requires room { body_size (content_of message.now) ≤ length out.old }
-    ensures { out.new ≡ body (content_of message.now) ++ drop (body_size (content_of message.now)) out.old }
+    requires room { body_length (content_of message.now) ≤ length out.old }
+    ensures { out.new ≡ body (content_of message.now) ++ drop (body_length (content_of message.now)) out.old }
 {
     match message {
         Message::SupportedProfiles { version, profiles } => write_profiles(*version, profiles, out),

@@ -101,6 +101,20 @@ impl Room {
         }
     }
 
+    /// How many octets the messages had that were given.
+    pub(super) fn count_given(&self) -> u64
+        ensures { result ≡ (decoding_in self.now).given }
+    {
+        self.given
+    }
+
+    /// How many octets are held.
+    pub(super) fn count_held(&self) -> usize
+        ensures { result ≡ length (decoding_in self.now).held }
+    {
+        self.end - self.start
+    }
+
     /// Takes octets from the front of the piece, and answers how many.
     pub(super) fn take_from(&mut self, piece: &[u8]) -> usize
         ensures count { result ≡ taken (decoding_in self.old) (length piece.now) }
@@ -121,7 +135,7 @@ impl Room {
         if self.fault.is_some() {
             return 0;
         }
-        let held = self.end - self.start;
+        let held = self.count_held();
         let left = u64::MAX - (self.given + held as u64);
         n.min((SIZE - held).min(left as usize))
     }

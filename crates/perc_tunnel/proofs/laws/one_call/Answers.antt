@@ -1,0 +1,11 @@
+use Rattle.perc_tunnel.proofs.Streams.{exact_fed, exact_next, exact_answer}
+use Rattle.perc_tunnel.proofs.laws.one_call.Goals as goal
+
+pub returns-clause-feed : goal.returns-clause-feed
+returns-clause-feed c = exact_fed
+
+pub returns-clause-next : goal.returns-clause-next
+returns-clause-next c = exact_next
+
+pub returns-clause-answer : goal.returns-clause-answer
+returns-clause-answer c = exact_answer
