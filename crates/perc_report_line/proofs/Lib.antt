@@ -1,1 +1,5 @@
 pub mod Appended
+mod Causes
+mod Lines
+mod Sorts
+mod Uuids

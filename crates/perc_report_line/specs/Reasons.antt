@@ -1,6 +1,6 @@
 -- Why datagrams, grants and keys are refused, and why outputs are dropped: a word for each reason, and a number behind it
 -- where the reason has one.
-use Rattle.std.specs.Prelude.{ℕ, ◌≤◌, Bool, true, false, List, [], ◌∷◌, codes, Option, Some, None, IfSome, if◌then◌else◌}
+use Rattle.std.specs.Prelude.{ℕ, ◌≤◌, List, [], ◌∷◌, codes, Option, Some, None, if◌then◌else◌}
 use Rattle.std.specs.Str.{bytes_eq}
 use Rattle.std.specs.Fmt.{decimal}
 use Rattle.perc_word.specs.Word.{◌>>=◌, first_of, word_then, ends, text_in, number_in, most_of_two, most_of_six}

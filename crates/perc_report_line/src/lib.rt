@@ -2,6 +2,7 @@
 #![tactic(auto)]
 
 mod append;
+pub mod laws;
 mod read;
 mod reason_words;
 mod reasons;

@@ -1,5 +1,4 @@
 use Rattle.std.proofs.Common.{◌∷◌}
-use Rattle.std.specs.Prelude.{codes}
 use Rattle.std.specs.Fmt.{decimal}
 use Rattle.std.proofs.lemmas.Result.{IfOk-equal}
 use Rattle.perc_word.specs.Word.{marker_text, payload_text}
