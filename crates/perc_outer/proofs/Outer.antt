@@ -6,7 +6,7 @@ use Rattle.std.specs.Option.{option_map_or}
 use Rattle.std.proofs.lemmas.Bool.Decides.{nat_tests}
 use Rattle.perc_kdf.specs.Derivation.{IsSession, KeyAndSalt}
 use Rattle.perc_window.specs.Replay.{has}
-use Rattle.perc_rtp.specs.Header.{Header, IsPacket, spelling as header_spelling}
+use Rattle.perc_rtp.specs.Header.{Header, IsHeader, IsPacket, spelling as header_spelling}
 use Rattle.perc_rtp.specs.Reading.{packet_of}
 use Rattle.perc_rtp.specs.declared.head.RtpFault.{RtpFault}
 use Rattle.perc_rtp.proofs.PacketLaws.{packet_read, read_packet}
@@ -27,7 +27,9 @@ use Rattle.perc_ekt.proofs.Octets.{octets_of}
 use Rattle.perc_outer.specs.declared.fault.OuterFault.{OuterFault}
 use Rattle.perc_outer.specs.declared.fault.OuterFault.TheVariants.{OwnStream, Rtp, StreamLimit}
 use Rattle.perc_outer.specs.Streams.{OuterStream, accepted_of, is_full_for, is_of, with_index}
-use Rattle.perc_outer.specs.Datagram.{Blocked, Opened, Reached, Refused, field_refusal, is_own, opened_packet, packet_refusal, reached, reached_behind, reached_datagram, reached_opened, reached_packet}
+use Rattle.perc_outer.specs.Datagram.{Blocked, Opened, Reach, Reached, Refused, field_refusal, is_own, opened_packet, packet_refusal, reached, reached_behind, reached_datagram, reached_opened, reached_packet}
+use Rattle.perc_outer.specs.declared.reaching.Reached.{Reached as Told}
+use Rattle.perc_outer.specs.Kept.{IsReach, IsTold}
 use Rattle.perc_outer.specs.Reaching.{IsReached}
 use Rattle.perc_outer.proofs.Datagrams.{datagram_read}
 use Rattle.perc_outer.proofs.Finding.{any_found, find_past_with, find_with}
@@ -240,3 +242,23 @@ pub reached_once : (keys : KeyAndSalt) (own : Option ℕ) (streams : List OuterS
 reached_once keys own streams datagram o is =
     let f = found keys own streams datagram o is in
     rx_once (accepted_of streams o.header.ssrc) o.header.seq o.index (opened_as_sealed keys streams o.header f.rest o.index f.body f.opens).index_is
+
+-- The header is one, where the datagram's octets are octets.
+pub reached_header : (keys : KeyAndSalt) (own : Option ℕ) (streams : List OuterStream) (datagram : List ℕ) (o : Opened) → ((k : ℕ) → get_or datagram k 0 < 256)
+    → reached keys own streams datagram ≡ Reached o → IsHeader o.header
+reached_header keys own streams datagram o octets is =
+    let f = found keys own streams datagram o is in
+    let is_datagram = (field_of_ok f.packet o.field datagram (octets_of datagram octets)).0 f.field_is in
+    let packet_octets = below_front f.packet (field_spelling o.field) datagram is_datagram.octets octets in
+    (read_packet o.header f.rest f.packet (below_all f.packet packet_octets) f.packet_is).header
+
+-- ---- for callers
+
+same_told : (a b : Told) → ◌≡◌ {A = Result Told OuterFault} (Ok a) (Ok b) → a ≡ b
+same_told a b is = cc
+
+-- What was told is of a datagram that is reached.
+pub told_reached : (reach : Reach) (told : Told) (octets : List ℕ) → IsReach reach (Ok told) octets → (o : Opened) × (reach ≡ Reached o) × IsTold told o octets
+told_reached (Refused fault) told octets is = absurd (cc)
+told_reached (Blocked ssrc index fault) told octets is = absurd (cc)
+told_reached (Reached o) told octets is = (o, refl, subst (λ (t : Told). IsTold t o octets) (sym (same_told told is.0 is.1)) is.2)

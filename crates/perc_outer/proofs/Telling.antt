@@ -1,17 +1,18 @@
 -- What is told, from what stands in the octets; and answers by what was found.
-use Rattle.std.proofs.Common.{◌≡◌, ℕ, ◌+◌, ◌-◌, ◌≤◌, List, ◌++◌, length, take, drop, Result, Ok, Err, refl, sym, ap, ◌∙◌, append_assoc, arith}
-use Rattle.std.specs.Prelude.{MatchResult}
+use Rattle.std.proofs.Common.{◌≡◌, ℕ, ◌+◌, ◌-◌, ◌≤◌, List, ◌++◌, length, take, drop, Result, Ok, Err, refl, sym, ap, ◌∙◌, append_assoc, arith, ◌<◌}
+use Rattle.std.specs.Prelude.{MatchResult, IfSome}
 use Rattle.std.proofs.lemmas.List.{drop-take, drop_at, length-append, length-take, take_at, take-append-le, take-take}
 use Rattle.perc_rtp.specs.Header.{Header, spelling}
 use Rattle.perc_srtp.specs.Ends.{Stream}
 use Rattle.perc_srtp.specs.Sealed.{BeginsWith}
 use Rattle.perc_ohb.specs.Block as ohb
+use Rattle.perc_ohb.specs.declared.block.Ohb.{Ohb}
 use Rattle.perc_ekt.specs.Field as ekt
 use Rattle.perc_ekt.specs.declared.field.EktField.{EktField}
 use Rattle.perc_outer.specs.declared.fault.OuterFault.{OuterFault}
 use Rattle.perc_outer.specs.Streams.{OuterStream, with_index}
 use Rattle.perc_outer.specs.Datagram.{Opened}
-use Rattle.perc_outer.specs.Kept.{IsTold, IsUnsealed, StandsFor}
+use Rattle.perc_outer.specs.Kept.{IsInRange, IsTold, IsUnsealed, StandsFor}
 use Rattle.perc_outer.proofs.Datagrams.{field_behind}
 
 -- ---- answers
@@ -113,3 +114,21 @@ stand o body octets datagram len end front long body_is end_is size within is =
 pub block_in : (o : Opened) (octets : List ℕ) (len n : ℕ) → Stand o octets len → n ≡ length (ohb.spelling o.block) → len - n + length (ohb.spelling o.block) ≡ len
 block_in o octets len n s n_is =
     omega (arith, s.long, length-append (spelling o.header) (o.inner ++ ohb.spelling o.block), length-append o.inner (ohb.spelling o.block))
+
+-- what is told is in range
+pub in_range : (head_len block_len len end : ℕ) (block : Ohb) (told : EktField) (f : ekt.Field) (new datagram : List ℕ) → head_len ≤ len → 1 ≤ block_len
+    → block_len ≤ len - head_len → len + 16 ≡ end → length new ≡ end → end ≤ length datagram → IfSome block.pt (λ pt. pt < 128)
+    → ekt.IsDatagram (take end datagram) f datagram → told ≡ ekt.told_of f end
+    → IsInRange (new ++ drop end datagram) (record { header = head_len; block = len - block_len; len = len; ohb = block; field = told })
+in_range head_len block_len len end block told f new datagram behind some inside end_is size within pt is told_is =
+    let packet : length (take end datagram) ≡ end = omega (arith, length-take end datagram) in
+    record {
+      inner = omega arith;
+      block = omega arith;
+      len = omega (arith, length-append new (drop end datagram));
+      pt = pt;
+      field = f;
+      fits = is.fits;
+      told_is = told_is ∙ ap (ekt.told_of f) (sym end_is);
+      field_octets = drop_at new (drop end datagram) (len + 16) (size ∙ sym end_is) ∙ ap (λ (n : ℕ). drop n datagram) (sym packet) ∙ field_behind (take end datagram) f datagram is;
+    }

@@ -1,5 +1,5 @@
 -- What the code keeps of outer streams, and what it tells of an opened datagram.
-use Rattle.std.specs.Prelude.{◌≡◌, ℕ, ◌+◌, List, ◌++◌, length, take, drop, ◌==◌, Option, Some, None, find, Result, Ok, Err}
+use Rattle.std.specs.Prelude.{◌≡◌, ℕ, ◌+◌, List, ◌++◌, length, take, drop, ◌==◌, Option, Some, None, find, Result, Ok, Err, ◌<◌, ◌≤◌, IfSome}
 use Rattle.perc_window.specs.Replay.{StandsFor as WindowStandsFor}
 use Rattle.perc_srtp.specs.Ends.{Stream}
 use Rattle.perc_srtp.specs.Sealed.{BeginsWith}
@@ -45,6 +45,17 @@ pub record IsTold (told : Reached) (o : Opened) (octets : List ℕ) : Type 0 whe
   pub packet : take told.len octets ≡ spelling o.header ++ o.inner ++ ohb.spelling o.block
   pub field : told.field ≡ ekt.told_of o.field (told.len + 16)
   pub field_octets : drop (told.len + 16) octets ≡ ekt.spelling o.field
+
+-- What is told of any opened datagram is in range: there is a block, 16 octets stand behind it, and then a field.
+pub record IsInRange (octets : List ℕ) (told : Reached) : Type 0 where
+  pub inner : told.header ≤ told.block
+  pub block : told.block < told.len
+  pub len : told.len + 16 ≤ length octets
+  pub pt : IfSome told.ohb.pt (λ pt. pt < 128)
+  pub field : ekt.Field
+  pub fits : ekt.IsField field
+  pub told_is : told.field ≡ ekt.told_of field (told.len + 16)
+  pub field_octets : drop (told.len + 16) octets ≡ ekt.spelling field
 
 -- What is answered for it, and what stands in the octets then.
 abbrev pub IsReach : Reach → Result Reached OuterFault → List ℕ → Type 0

@@ -1,9 +1,9 @@
 // Datagrams opened hop by hop.
-ghost use Rattle.std.specs.Prelude.{◌≡◌, ℕ, ◌≤◌, List, length, MatchResult};
+ghost use Rattle.std.specs.Prelude.{◌≡◌, ℕ, ◌≤◌, List, length, IfOk, MatchResult};
 ghost use Rattle.perc_outer.specs.Streams.{OuterStream};
 ghost use Rattle.perc_outer.specs.Datagram as spec;
 ghost use Rattle.perc_outer.specs.Datagram.{reached, streams_after};
-ghost use Rattle.perc_outer.specs.Kept.{IsReach, KeepsWhenRefused, StandsFor};
+ghost use Rattle.perc_outer.specs.Kept.{IsInRange, IsReach, KeepsWhenRefused, StandsFor};
 ghost use Rattle.perc_outer.specs.Parts.{IsFront, IsRefused};
 
 use crate::{OuterFault, OuterStreams};
@@ -48,8 +48,11 @@ pub fn reach(
     datagram: &mut [u8],
 ) -> Result<Reached, OuterFault>
     requires few { length datagram.old ≤ 65536 }
-    ensures answer { (before : List OuterStream) → StandsFor streams.old before → IsReach (reached keys.now own before datagram.old) result datagram.new }
-    ensures streams { (before : List OuterStream) → StandsFor streams.old before → StandsFor streams.new (streams_after before (reached keys.now own before datagram.old)) }
+    ensures answer { (before : List OuterStream) → StandsFor streams.old before
+        → IsReach (reached keys.now own before datagram.old) result datagram.new }
+    ensures streams { (before : List OuterStream) → StandsFor streams.old before
+        → StandsFor streams.new (streams_after before (reached keys.now own before datagram.old)) }
+    ensures range { IfOk result (IsInRange datagram.new) }
     ensures refused { KeepsWhenRefused result ((streams.new ≡ streams.old) × (datagram.new ≡ datagram.old)) }
 {
     let front = read_front(own, datagram)?;

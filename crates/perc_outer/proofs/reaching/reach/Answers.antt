@@ -1,4 +1,4 @@
-use Rattle.std.proofs.Common.{◌≡◌, ◌+◌, ◌-◌, ◌++◌, length, take, drop, Err, refl, sym, ap, ◌∙◌, arith}
+use Rattle.std.proofs.Common.{◌≡◌, ◌≤◌, ◌+◌, ◌-◌, ◌++◌, length, take, drop, Err, refl, sym, ap, ◌∙◌, arith}
 use Rattle.std.proofs.lemmas.Result.{err_from_is_err_and}
 use Rattle.perc_rtp.specs.declared.head.RtpHead.{RtpHead}
 use Rattle.std.proofs.lemmas.List.{length-take}
@@ -7,7 +7,7 @@ use Rattle.perc_ohb.specs.Reading.{block_of}
 use Rattle.perc_ohb.proofs.ReadingLaws.{block_read}
 use Rattle.perc_outer.specs.Datagram.{Opened, opened_packet}
 use Rattle.perc_outer.proofs.Outer.{IsRead, reached_blocked, reached_shut, reached_whole}
-use Rattle.perc_outer.proofs.Telling.{block_in, body_at, has_opened, is_told, refused_by, stand, unsealed_refused}
+use Rattle.perc_outer.proofs.Telling.{block_in, body_at, has_opened, in_range, is_told, refused_by, stand, unsealed_refused}
 use Rattle.perc_outer.proofs.reaching.reach.Goals as goal
 
 pub returns-in_err-len-clause-answer : goal.returns-in_err-len-clause-answer
@@ -97,3 +97,19 @@ returns-clause-streams c = λ before stands.
     let k = c.in_ok-ohb.ensures.ok in
     let ends = ap block_of (sym body) ∙ block_read c.in_ok-ohb.ohb k.0 _ k.1 in
     rw (reached_whole c.args.keys.now c.args.own before d _ f.field f.header f.rest o.index o.body k.0 c.in_ok-ohb.ohb read f.other o.opens ends) o.stands
+
+pub returns-clause-range : goal.returns-clause-range
+returns-clause-range c =
+    let f = c.in_ok-front.ensures in
+    let d = c.args.datagram.now in
+    let end = c.in_ok-front.front.end in
+    let len = c.in_ok-len.len in
+    let size : length (take end d) ≡ end = omega (arith, length-take end d, f.within) in
+    let end_is : len + 16 ≡ end = c.in_ok-len.ensures.len.0 ∙ size in
+    let whole : length c.unseal.new.packet ≡ end = omega arith in
+    let head = c.in_ok-front.front.head in
+    let behind : head.len ≤ len = c.in_ok-len.ensures.len.1 in
+    let within = c.in_ok-ohb.ensures.within in
+    let short : c.in_ok-ohb.block_len ≤ len - head.len = omega (arith, within.2, length-take (len - head.len) (drop head.len (c.unseal.new.packet ++ drop end d))) in
+    in_range head.len c.in_ok-ohb.block_len len end c.in_ok-ohb.ohb c.in_ok-front.front.field f.field c.unseal.new.packet d behind within.0 short end_is whole f.within
+    c.in_ok-ohb.ensures.pt f.is_datagram f.field_is
