@@ -1,5 +1,5 @@
 -- Streams of messages: one reading, and what any calls of a decoder lead to.
-use Rattle.std.proofs.Common.{◌≡◌, ℕ, ◌+◌, ◌≤◌, inl, inr, List, [], ◌∷◌, ◌++◌, length, take, drop, Option, Some, None, Result, Ok, Err, IfSome, refl, sym, ap, subst, ◌∙◌, arith, append_assoc}
+use Rattle.std.proofs.Common.{◌≡◌, ℕ, ◌+◌, ◌≤◌, inl, inr, List, [], ◌∷◌, ◌++◌, length, take, drop, Option, Some, None, Ok, Err, IfSome, refl, sym, ap, subst, ◌∙◌, arith, append_assoc}
 use Rattle.std.specs.List.{flat_map, All}
 use Rattle.std.proofs.lemmas.List.{length-append, append-nil, take_at, append_cancel_left, take-append-le, length-take-le, take-append-drop}
 use Rattle.std.proofs.lemmas.List.Elements.{All-head, All-tail, All-nil, All-push}
@@ -8,7 +8,7 @@ use Rattle.perc_tunnel.specs.declared.decoder.TunnelFault.{TunnelFault}
 use Rattle.perc_tunnel.specs.declared.forms.Form.{Form}
 use Rattle.perc_tunnel.specs.Message.{TunnelMessage, IsMessage, spelling}
 use Rattle.perc_tunnel.specs.Stream.{BeginsWithMessage, IsPart, IsStream, IsFaultyAt, HasReason}
-use Rattle.perc_tunnel.specs.Decoding.{Decoding, fed, taken, Decodes, Call, Feed, Next, given_by, Leads, IsExact, AnswersAfter, IsExactAnswer, fresh}
+use Rattle.perc_tunnel.specs.Decoding.{Decoding, fed, taken, Decodes, Call, Feed, Next, given_by, Leads, IsExact, Answer, AnswersAfter, IsExactAnswer, fresh}
 use Rattle.perc_tunnel.specs.Forms.{kind_of, form_at, Suits, message_at}
 use Rattle.perc_tunnel.proofs.Suiting.{form_told, length_fits, Suits-front}
 use Rattle.perc_tunnel.proofs.Whole.{form_in, read_again}
@@ -134,7 +134,7 @@ exact_fault stream messages d new fault is h = elim h.1 [
 ]
 
 -- a call for the next message
-pub exact_next : (stream : List ℕ) (messages : List TunnelMessage) (d new : Decoding) (answer : Result (Option TunnelMessage) TunnelFault) → IsExact stream messages d
+pub exact_next : (stream : List ℕ) (messages : List TunnelMessage) (d new : Decoding) (answer : Answer) → IsExact stream messages d
     → Decodes d answer new → IsExact stream (messages ++ given_by answer) new
 exact_next stream messages d new (Ok (Some m)) is h =
     let flat : flat_map spelling (messages ++ m ∷ []) ≡ flat_map spelling messages ++ spelling m =
@@ -179,9 +179,6 @@ any_pieces calls octets messages d leads =
 
 -- ---- the next answer
 
-abbrev Answer : Type 0
-Answer = Result (Option TunnelMessage) TunnelFault
-
 not_none : (m : TunnelMessage) (a : Answer) → a ≡ Ok (Some m) → a ≡ Ok None → ⊥
 not_none m a e f = cc
 
@@ -194,7 +191,7 @@ same_message m k a e f = cc
 same_fault : (f g : TunnelFault) (a : Answer) → a ≡ Err f → a ≡ Err g → f ≡ g
 same_fault f g a e h = cc
 
-pub exact_answer : (stream : List ℕ) (messages : List TunnelMessage) (d new : Decoding) (answer : Result (Option TunnelMessage) TunnelFault) → IsExact stream messages d
+pub exact_answer : (stream : List ℕ) (messages : List TunnelMessage) (d new : Decoding) (answer : Answer) → IsExact stream messages d
     → Decodes d answer new → IsExactAnswer stream messages d.held answer
 exact_answer stream messages d new (Ok (Some m)) is h =
     let begins : BeginsWithMessage d.held = (m, new.held, h.1, h.2) in
@@ -223,7 +220,7 @@ exact_answer stream messages d new (Err fault) is h =
       );
     }
 
-pub next_answer : (calls : List Call) (octets : List ℕ) (messages : List TunnelMessage) (d : Decoding) (answer : Result (Option TunnelMessage) TunnelFault)
+pub next_answer : (calls : List Call) (octets : List ℕ) (messages : List TunnelMessage) (d : Decoding) (answer : Answer)
     → AnswersAfter calls octets messages d answer → IsExactAnswer octets messages d.held answer
 next_answer calls octets messages d answer a =
     exact_answer octets messages d a.new answer (any_pieces calls octets messages d a.leads) a.decodes

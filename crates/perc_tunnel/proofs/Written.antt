@@ -47,7 +47,11 @@ body-length (MediaKeys association profile client server) is =
     let a : length association ≡ 16 = is.0.0 in
     let c = is.1 in
     let s = is.2 in
-    omega (arith, whole, length-append association (big_bytes 2 n ++ (counted [] ++ r2)), length-append (counted client.key) r3, length-append (counted server.key) r4, length-append (counted client.salt) (counted server.salt), c.key, c.salt, s.key, s.salt)
+    let l1 = length-append association (big_bytes 2 n ++ (counted [] ++ r2)) in
+    let l2 = length-append (counted client.key) r3 in
+    let l3 = length-append (counted server.key) r4 in
+    let l4 = length-append (counted client.salt) (counted server.salt) in
+    omega (arith, whole, l1, l2, l3, l4, c.key, c.salt, s.key, s.salt)
 body-length (TunneledDtls association octets) is =
     let a : length association ≡ 16 = is.0.0 in
     omega (arith, length-append (association ++ big_bytes 2 (length octets)) octets, length-append association (big_bytes 2 (length octets)))
@@ -63,6 +67,13 @@ has_lengths (UnsupportedVersion highest) is = tt
 has_lengths (MediaKeys association profile client server) is = (is.1.key, is.2.key)
 has_lengths (TunneledDtls association octets) is = (is.1, is.2)
 has_lengths (EndpointDisconnect association) is = tt
+
+-- or octets behind their count
+counted_more : (w b old new part : List ℕ) (n m : ℕ) → length w ≡ n → m ≡ n + (1 + length b) → m ≤ length old → new ≡ w ++ drop n old
+    → part ≡ counted b ++ drop (1 + length b) (mid_of n (length new - n) new) → put_mid n (length new - n) new part ≡ (w ++ counted b) ++ drop m old
+counted_more w b old new part n m size next fits is_new is_part =
+    written_more w (counted b) old new part n (1 + length b) size (counted-length b (length b) refl) (omega (arith, next, fits)) is_new is_part
+    ∙ ap (λ (z : ℕ). (w ++ counted b) ++ drop z old) (sym next)
 
 -- keys, of which the name, the number and the zero stand in front
 pub keys_written : (a ck sk cs ss old o1 p1 p2 p3 p4 : List ℕ) (n k : ℕ) → length a ≡ 16 → length ck ≡ k → length sk ≡ k → length cs ≡ 12 → length ss ≡ 12
@@ -93,14 +104,9 @@ keys_written a ck sk cs ss old o1 p1 p2 p3 p4 n k la lck lsk lcs lss fits e1 f1 
     let l4 : length w4 ≡ 21 + 2 * k = omega (arith, length-append w3 (counted sk)) in
     let l5 : length w5 ≡ 34 + 2 * k = omega (arith, length-append w4 (counted cs)) in
     let g2 : o2 ≡ w2 ++ drop 19 old = set_more w1 old o1 18 0 l1 (omega arith) e1 in
-    let g3 : o3 ≡ w3 ++ drop (20 + k) old =
-    written_more w2 (counted ck) old o2 p1 19 (1 + length ck) l2 (counted-length ck (length ck) refl) (omega arith) g2 f1 ∙ place w3 (19 + (1 + length ck)) (20 + k) (omega arith) in
+    let g3 : o3 ≡ w3 ++ drop (20 + k) old = counted_more w2 ck old o2 p1 19 (20 + k) l2 (omega arith) (omega arith) g2 f1 in
     let g4 : o4 ≡ w4 ++ drop (21 + 2 * k) old =
-    e4 ∙ written_more w3 (counted sk) old o3 p2 (20 + k) (1 + length sk) l3 (counted-length sk (length sk) refl) (omega arith) g3 f2 ∙ place w4 (20 + k + (1 + length sk)) (21 + 2 * k) (omega arith) in
+    e4 ∙ counted_more w3 sk old o3 p2 (20 + k) (21 + 2 * k) l3 (omega arith) (omega arith) g3 f2 in
     let g5 : o5 ≡ w5 ++ drop (34 + 2 * k) old =
-    e5 ∙ written_more w4 (counted cs) old o4 p3 (21 + 2 * k) (1 + length cs) l4 (counted-length cs (length cs) refl) (omega arith) g4 f3 ∙ place w5 (21 + 2 * k + (1 + length cs)) (34 + 2 * k) (omega arith) in
-    written_more w5 (counted ss) old o5 p4 (34 + 2 * k) (1 + length ss) l5 (counted-length ss (length ss) refl) (omega arith) g5 f4
-    ∙ place (w5 ++ counted ss) (34 + 2 * k + (1 + length ss)) (47 + 2 * k) (omega arith)
-  where
-    place : (w : List ℕ) (i j : ℕ) → i ≡ j → w ++ drop i old ≡ w ++ drop j old
-    place w i j e = ap (λ (z : ℕ). w ++ drop z old) e
+    e5 ∙ counted_more w4 cs old o4 p3 (21 + 2 * k) (34 + 2 * k) l4 (omega arith) (omega arith) g4 f3 in
+    counted_more w5 ss old o5 p4 (34 + 2 * k) (47 + 2 * k) l5 (omega arith) (omega arith) g5 f4

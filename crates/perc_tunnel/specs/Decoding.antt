@@ -39,8 +39,12 @@ pub record IsFault (d : Decoding) (fault : TunnelFault) : Type 0 where
   pub offset : fault.offset ≡ d.given
   pub reason : HasReason d.held fault.reason
 
+-- the answer to a call for the next message
+abbrev pub Answer : Type 0
+Answer = Result (Option TunnelMessage) TunnelFault
+
 -- what a call for the next message does, from one state to the other
-abbrev pub Decodes : Decoding → Result (Option TunnelMessage) TunnelFault → Decoding → Type 0
+abbrev pub Decodes : Decoding → Answer → Decoding → Type 0
 -- the held octets begin with the message, which is given
 Decodes old (Ok (Some m)) new =
     (old.fault ≡ None) × IsMessage m × (old.held ≡ spelling m ++ new.held) × (new.given ≡ old.given + length (spelling m)) × (new.fault ≡ None)
@@ -54,9 +58,9 @@ Decodes old (Err fault) new = (new ≡ record old { fault = Some fault }) × ((o
 -- a call and its answer
 pub data Call : Type 0 where
   Feed : (octets : List ℕ) → Call
-  Next : Result (Option TunnelMessage) TunnelFault → Call
+  Next : Answer → Call
 
-abbrev pub given_by : Result (Option TunnelMessage) TunnelFault → List TunnelMessage
+abbrev pub given_by : Answer → List TunnelMessage
 given_by (Ok (Some m)) = m ∷ []
 given_by (Ok None) = []
 given_by (Err fault) = []
@@ -78,14 +82,32 @@ pub record IsExact (stream : List ℕ) (messages : List TunnelMessage) (d : Deco
   pub fault : IfSome d.fault (λ fault. IsFaultyAt fault.offset messages d.held stream × HasReason d.held fault.reason)
 
 -- A new decoder was called so, took these octets and gave these messages, and to a further call it gives this answer.
-pub record AnswersAfter (calls : List Call) (octets : List ℕ) (messages : List TunnelMessage) (d : Decoding) (answer : Result (Option TunnelMessage) TunnelFault) : Type 0 where
+pub record AnswersAfter (calls : List Call) (octets : List ℕ) (messages : List TunnelMessage) (d : Decoding) (answer : Answer) : Type 0 where
   pub leads : Leads fresh calls octets messages d
   pub new : Decoding
   pub decodes : Decodes d answer new
 
 -- The answer is None exactly where the stream is the messages and a proper prefix of one more, a message exactly where it
 -- stands behind them, and a fault at an offset exactly where the stream goes wrong there.
-pub record IsExactAnswer (stream : List ℕ) (messages : List TunnelMessage) (held : List ℕ) (answer : Result (Option TunnelMessage) TunnelFault) : Type 0 where
+pub record IsExactAnswer (stream : List ℕ) (messages : List TunnelMessage) (held : List ℕ) (answer : Answer) : Type 0 where
   pub none : (answer ≡ Ok None) ↔ IsStream messages held stream
   pub message : (m : TunnelMessage) → (answer ≡ Ok (Some m)) ↔ (IsMessage m × (after : List ℕ) × (held ≡ spelling m ++ after))
   pub fault : (offset : ℕ) → ((f : TunnelFault) × (answer ≡ Err f) × (f.offset ≡ offset)) ↔ IsFaultyAt offset messages held stream
+
+-- A feed leaves the messages and the held octets those of the stream.
+abbrev pub FeedsAreExact : Type 0
+FeedsAreExact =
+    (stream : List ℕ) (messages : List TunnelMessage) (d : Decoding) (piece : List ℕ) → IsExact stream messages d
+    → IsExact (stream ++ take (taken d (length piece)) piece) messages (fed d piece)
+
+-- So does a call for the next message, whose answer is the one that the stream has.
+abbrev pub AnswersAreExact : Type 0
+AnswersAreExact =
+    (stream : List ℕ) (messages : List TunnelMessage) (d new : Decoding) (answer : Answer) → IsExact stream messages d → Decodes d answer new
+    → IsExact stream (messages ++ given_by answer) new × IsExactAnswer stream messages d.held answer
+
+-- So is the answer after any calls of a new decoder.
+abbrev pub EachAnswerIsExact : Type 0
+EachAnswerIsExact =
+    (calls : List Call) (octets : List ℕ) (messages : List TunnelMessage) (d : Decoding) (answer : Answer) → AnswersAfter calls octets messages d answer
+    → IsExactAnswer octets messages d.held answer

@@ -87,3 +87,7 @@ body (EndpointDisconnect association) = association
 
 unfoldable pub spelling : TunnelMessage → List ℕ
 spelling m = type_of m ∷ (big_bytes 2 (length (body m)) ++ body m)
+
+-- The message has a spelling, which is as long as its lengths say.
+abbrev pub IsSpelled : TunnelMessage → Type 0
+IsSpelled m = IsMessage m × (length (spelling m) ≡ message_length m)

@@ -1,9 +1,8 @@
 //! What holds of every stream of messages. The functions do nothing: their contracts are the laws.
-ghost use Rattle.std.specs.Prelude.{◌≡◌, ℕ, List, Option, Result, ◌++◌, length, take};
+ghost use Rattle.std.specs.Prelude.{◌≡◌, ℕ, List, ◌++◌, length};
 ghost use Rattle.perc_tunnel.specs.Message.{HasLengths, IsMessage, TunnelMessage, message_length, spelling};
 ghost use Rattle.perc_tunnel.specs.Stream.{IsFaultyAt, IsPart, IsStream};
-ghost use Rattle.perc_tunnel.specs.Decoding.{AnswersAfter, Call, Decodes, Decoding, IsExact, IsExactAnswer, Leads, fed, fresh, given_by, taken};
-ghost use Rattle.perc_tunnel.specs.declared.decoder.TunnelFault.{TunnelFault};
+ghost use Rattle.perc_tunnel.specs.Decoding.{AnswersAreExact, Call, Decoding, EachAnswerIsExact, FeedsAreExact, IsExact, Leads, fresh};
 
 /// No message's spelling begins another's: octets begin with one message at most, and then aren't a part of one.
 pub fn one_message()
@@ -27,16 +26,15 @@ pub fn any_pieces()
 /// One call of a decoder whose messages and held octets are the stream so far: after it they are still, and the next answer
 /// is the one that the stream demands.
 pub fn one_call()
-    ensures feed { (stream : List ℕ) (messages : List TunnelMessage) (d : Decoding) (piece : List ℕ) → IsExact stream messages d → IsExact (stream ++ take (taken d (length piece)) piece) messages (fed d piece) }
-    ensures next { (stream : List ℕ) (messages : List TunnelMessage) (d new : Decoding) (answer : Result (Option TunnelMessage) TunnelFault) → IsExact stream messages d → Decodes d answer new → IsExact stream (messages ++ given_by answer) new }
-    ensures answer { (stream : List ℕ) (messages : List TunnelMessage) (d new : Decoding) (answer : Result (Option TunnelMessage) TunnelFault) → IsExact stream messages d → Decodes d answer new → IsExactAnswer stream messages d.held answer }
+    ensures feed { FeedsAreExact }
+    ensures next { AnswersAreExact }
 {}
 
 /// Whatever pieces a new decoder is fed, and whenever it is asked: the next answer is None exactly where the octets that it
 /// took are the messages that it gave and a proper prefix of one more, a message exactly where it stands behind them, and a
 /// fault at an offset exactly where the stream goes wrong there.
 pub fn next_answer()
-    ensures { (calls : List Call) (octets : List ℕ) (messages : List TunnelMessage) (d : Decoding) (answer : Result (Option TunnelMessage) TunnelFault) → AnswersAfter calls octets messages d answer → IsExactAnswer octets messages d.held answer }
+    ensures { EachAnswerIsExact }
 {}
 
 /// A message is as long as its spelling, and has the lengths that a spelling wants.

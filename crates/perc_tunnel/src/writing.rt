@@ -2,9 +2,9 @@
 ghost use Rattle.std.specs.Prelude.{◌≡◌, ◌+◌, ◌*◌, ◌^◌, ◌<◌, ◌≤◌, ◌++◌, ◌∷◌, ◌↔◌, length, drop, SomeIff, IfSome, IfNone, OnSome, IsTrue};
 ghost use Rattle.byteorder.specs.Endian.{big_bytes};
 ghost use Rattle.perc_base.specs.Profile.{key_length};
-ghost use Rattle.perc_tunnel.specs.Message.{body, body_length, counted, Fits, HasLengths, IsAssociation, IsHalf, IsMessage, message_length, spelling, type_of, AreOctets};
+ghost use Rattle.perc_tunnel.specs.Message.{body, body_length, counted, Fits, HasLengths, IsAssociation, IsHalf, IsMessage, IsSpelled, message_length, spelling, type_of, AreOctets};
 ghost use Rattle.perc_tunnel.specs.Message as spec;
-ghost use Rattle.perc_tunnel.specs.Told.{content_of, numbers_of};
+ghost use Rattle.perc_tunnel.specs.Told.{content_of, keys_message, numbers_of};
 
 use super::Message;
 use crate::{MediaKeys, ProfileList};
@@ -17,7 +17,7 @@ use perc_kdf::Master;
 /// key that hasn't the profile's length, a record of no octet or of more than 65517. Then `out` is as it was.
 pub fn write(message: &Message<'_>, out: &mut [u8]) -> Option<usize>
     ensures length { SomeIff result (Fits (content_of message.now) (length out.old)) (message_length (content_of message.now)) }
-    ensures message { OnSome result (IsMessage (content_of message.now) × (length (spelling (content_of message.now)) ≡ message_length (content_of message.now))) }
+    ensures message { OnSome result (IsSpelled (content_of message.now)) }
     ensures value { IfSome result (λ n. out.new ≡ spelling (content_of message.now) ++ drop n out.old) }
     ensures none { IfNone result (out.new ≡ out.old) }
 {
@@ -67,8 +67,8 @@ fn version_len(highest: u8) -> Option<usize>
 }
 
 fn keys_len(keys: &MediaKeys) -> Option<usize>
-    ensures length { SomeIff result (HasLengths (spec.MediaKeys keys.now.association keys.now.profile keys.now.client keys.now.server)) (47 + 2 * key_length keys.now.profile) }
-    ensures message { OnSome result (IsMessage (spec.MediaKeys keys.now.association keys.now.profile keys.now.client keys.now.server)) }
+    ensures length { SomeIff result (HasLengths (keys_message keys.now)) (47 + 2 * key_length keys.now.profile) }
+    ensures message { OnSome result (IsMessage (keys_message keys.now)) }
 {
     let association = association_len(&keys.association);
     if is_half(keys.profile, &keys.client) && is_half(keys.profile, &keys.server) {
@@ -179,9 +179,9 @@ fn write_record(association: &[u8], octets: &[u8], out: &mut [u8])
 }
 
 fn write_keys(keys: &MediaKeys, out: &mut [u8])
-    requires message { IsMessage (spec.MediaKeys keys.now.association keys.now.profile keys.now.client keys.now.server) }
+    requires message { IsMessage (keys_message keys.now) }
     requires room { 47 + 2 * key_length keys.now.profile ≤ length out.old }
-    ensures { out.new ≡ body (spec.MediaKeys keys.now.association keys.now.profile keys.now.client keys.now.server) ++ drop (47 + 2 * key_length keys.now.profile) out.old }
+    ensures { out.new ≡ body (keys_message keys.now) ++ drop (47 + 2 * key_length keys.now.profile) out.old }
 {
     let key_len = keys.profile.key_len();
     write_named(&keys.association, keys.profile.number(), out);

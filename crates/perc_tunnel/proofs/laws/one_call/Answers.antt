@@ -5,7 +5,5 @@ pub returns-clause-feed : goal.returns-clause-feed
 returns-clause-feed c = exact_fed
 
 pub returns-clause-next : goal.returns-clause-next
-returns-clause-next c = exact_next
-
-pub returns-clause-answer : goal.returns-clause-answer
-returns-clause-answer c = exact_answer
+returns-clause-next c = λ stream messages d new answer is h.
+    (exact_next stream messages d new answer is h, exact_answer stream messages d new answer is h)

@@ -31,7 +31,9 @@ returns c =
     c.requires.message.0.0 ck sk cs ss (omega (arith, k-is, c.requires.room)) c.write_named.ensures c.write_counted.ensures c.write_counted-2.ensures o4 refl
     c.write_counted-3.ensures o5 refl c.write_counted-4.ensures in
     whole
-    ∙ ap (λ (n : ℕ). (a ++ big_bytes 2 n ++ counted [] ++ counted c.key.result.now ++ counted c.key-2.result.now ++ counted c.salt.result.now ++ counted c.salt-2.result.now) ++ drop (47 + 2 * k) old) n-is
+    ∙ ap
+    (λ (n : ℕ). (a ++ big_bytes 2 n ++ counted [] ++ counted c.key.result.now ++ counted c.key-2.result.now ++ counted c.salt.result.now
+    ++ counted c.salt-2.result.now) ++ drop (47 + 2 * k) old) n-is
     ∙ (λ i. body (MediaKeys a keys.profile
     (record { key = c.key.ensures.value i; salt = c.salt.ensures i })
     (record { key = c.key-2.ensures.value i; salt = c.salt-2.ensures i })) ++ drop (47 + 2 * k-is i) old)

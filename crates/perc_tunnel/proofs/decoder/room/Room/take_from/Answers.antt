@@ -22,9 +22,13 @@ returns-clause-held c =
     let ys : List ℕ = put_mid room.end (room.end + n - room.end) xs part in
     let back : List ℕ = post_of room.end (room.end + n - room.end) xs in
     let all : length ys ≡ length xs =
-    omega (arith, length-append (take room.end xs) (part ++ back), length-append part back, length-take-le room.end xs (omega arith), length-drop (room.end + (room.end + n - room.end)) xs, len, fits) in
+    let two = length-append (take room.end xs) (part ++ back) in
+    let front = length-take-le room.end xs (omega arith) in
+    let behind = length-drop (room.end + (room.end + n - room.end)) xs in
+    omega (arith, two, length-append part back, front, behind, len, fits) in
     let ys-len : length ys ≡ room.octets.len = all ∙ ap length is ∙ sym room.octets.ok.0 in
-    let held = range-written xs (with_items room.octets ys).items part (post_of room.end (room.end + n - room.end) xs) room.start room.end n room.ordered fits len (with_items_is room.octets ys ys-len) in
+    let items = with_items_is room.octets ys ys-len in
+    let held = range-written xs (with_items room.octets ys).items part back room.start room.end n room.ordered fits len items in
     fed_is (decoding_in c.args.self.now) (decoding_in room) piece (slice_range (with_items room.octets ys).items room.start (room.end + n)) n
     c.make_room.ensures.held c.count_taken-count.ensures
     (held ∙ ap (λ l. slice_range l room.start room.end ++ part) is ∙ ap (λ l. slice_range room.octets.items room.start room.end ++ l) c.copy_from_slice.ensures.after)
