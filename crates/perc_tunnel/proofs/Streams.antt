@@ -199,7 +199,7 @@ exact_answer stream messages d new (Ok (Some m)) is h =
       none = (λ e. absurd (not_none m (Ok (Some m)) refl e), λ s. absurd (no_part_begins d.held begins s.part));
       message = λ k. (
         λ e. let same : m ≡ k = same_message m k (Ok (Some m)) refl e in
-        (subst IsMessage same h.1, new.held, h.2 ∙ ap (λ (z : TunnelMessage). spelling z ++ new.held) same),
+            (subst IsMessage same h.1, new.held, h.2 ∙ ap (λ (z : TunnelMessage). spelling z ++ new.held) same),
         λ b. ap (λ (z : TunnelMessage). Ok (Some z)) (one_message m k new.held b.1 h.1 b.0 (sym h.2 ∙ b.2)).0,
       );
       fault = λ offset. (λ f. absurd (not_fault (Some m) f.0 (Ok (Some m)) refl f.1), λ f. absurd (f.no_message begins));
