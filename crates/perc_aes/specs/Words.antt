@@ -37,7 +37,7 @@ turned_sum p q r s =
 abbrev pub times_column : List (List ℕ) → List ℕ → List ℕ
 times_column m column = word_from (λ r. row_times_column m column r 0)
 
--- the octet in row 0 of the first column, in row 1 of the second, and so on
+-- the octet in the first row of the first column, in the second row of the second, and so on
 abbrev pub diagonal : ℕ → ℕ → ℕ → ℕ → List ℕ
 diagonal a b c d =
     slice_index (octets_of_word a) 0 ∷ slice_index (octets_of_word b) 1 ∷ slice_index (octets_of_word c) 2 ∷ slice_index (octets_of_word d) 3 ∷ []
