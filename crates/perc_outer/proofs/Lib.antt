@@ -1,6 +1,6 @@
-mod Finding
-mod Standing
-mod Searching
+pub mod Finding
+pub mod Standing
+pub mod Searching
 mod Opening
 mod Datagrams
 mod Octets

@@ -110,6 +110,19 @@ impl Sender {
         ensures taken { OnOk result (self.new ≡ with_key self.old spi key.now) }
         ensures refused { OnErr result (self.new ≡ self.old) }
     {
+        let epoch = self.check_key(spi, key)?;
+        self.keys.push(TakenKey::new(spi, key));
+        self.epoch = epoch;
+        self.number = 0;
+        Ok(epoch)
+    }
+
+    /// What `take_key` answers for this key, without taking it: the epoch that it would have, or why it would be refused.
+    pub fn check_key(&self, spi: u16, key: &[u8]) -> Result<u16, TakeFault>
+        ensures answer { result ≡ take_answer self.now spi key.now }
+        ensures epoch { IfOk result (λ epoch. epoch ≡ count_under spi self.now.keys) }
+        ensures room { IfOk result (λ _. length self.now.keys < 512) }
+    {
         if is_taken(self.keys.as_slice(), key) {
             return Err(TakeFault::Repeated);
         }
@@ -117,10 +130,7 @@ impl Sender {
         if count >= KEYS_UNDER_SPI || self.keys.is_full() {
             return Err(TakeFault::Limit);
         }
-        self.keys.push(TakenKey::new(spi, key));
-        self.epoch = count as u16;
-        self.number = 0;
-        Ok(self.epoch)
+        Ok(count as u16)
     }
 
     /// The place of the next packet: the index after that of the packet before, whatever keys were taken in between.
