@@ -202,8 +202,9 @@ impl Sink for MemSink {
     }
 }
 
-/// Counts a call, and answers whether it is to fail.
-fn is_failing(calls: &mut u64, failing: &[u64]) -> bool
+/// Counts a call of an object in memory, and answers whether it is to fail: whether the number of the calls before it is
+/// among these.
+pub fn is_failing(calls: &mut u64, failing: &[u64]) -> bool
     ensures answer { result ≡ list_any (λ call. call == calls.old) failing.now }
     ensures counted { calls.new ≡ min (calls.old + 1) (2 ^ 64 - 1) }
 {

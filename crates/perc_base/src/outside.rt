@@ -1,6 +1,6 @@
 // The outside, as the product sees it.
-ghost use Rattle.std.specs.Prelude.{◌≡◌, ◌≤◌, ◌<◌, ℕ, List, Option, length, IfOk, OnErr};
-ghost use Rattle.perc_base.specs.Outside.{AppendsFront, HasRisen, TakesFront};
+ghost use Rattle.std.specs.Prelude.{◌≡◌, ◌≤◌, ◌<◌, ℕ, List, Option, length, IfOk, OnOk, OnErr};
+ghost use Rattle.perc_base.specs.Outside.{AppendsFront, Fills, HasRisen, TakesFront};
 
 /// The answer of a failed call on the outside.
 #[derive(Clone, Copy, Debug, PartialEq, Eq)]
@@ -50,5 +50,25 @@ pub trait Sink {
         ensures octets { IfOk result (λ n. AppendsFront (written self.old) (written self.new) piece.now n) }
         ensures failed { OnErr result (HasRisen (fault_count self.old) (fault_count self.new)) }
         ensures kept { OnErr result (written self.new ≡ written self.old) }
+        ensures never_falls { fault_count self.old ≤ fault_count self.new };
+}
+
+/// Where random octets come from.
+pub trait Randoms {
+    /// The octets that are still to be drawn, where that is told.
+    ghost left: { Self → Option (List ℕ) };
+
+    /// How often a call has failed.
+    ghost fault_count: { Self → ℕ };
+
+    /// How often a call has failed; the count stands still at 2^64 - 1.
+    fn faults(&self) -> u64
+        ensures { result ≡ fault_count self.now };
+
+    /// Fills the whole buffer with the next octets. After a failed call the buffer holds nothing stated.
+    fn fill(&mut self, into: &mut [u8]) -> Result<(), Failed>
+        ensures octets { OnOk result (Fills (left self.old) (left self.new) into.old into.new) }
+        ensures failed { OnErr result (HasRisen (fault_count self.old) (fault_count self.new)) }
+        ensures kept { OnErr result (left self.new ≡ left self.old) }
         ensures never_falls { fault_count self.old ≤ fault_count self.new };
 }
