@@ -11,10 +11,9 @@ use Rattle.perc_srtp.specs.Streams.{tx_index, tx_place}
 use Rattle.perc_srtp.specs.declared.streams.TxFault.{TxFault}
 use Rattle.perc_srtp.specs.declared.streams.TxFault.TheVariants as tx
 use Rattle.perc_ohb.specs.declared.block.Ohb.{Ohb}
-use Rattle.perc_ohb.specs.declared.rewriting.Change.{Change}
 use Rattle.perc_ohb.specs.Block as block
 use Rattle.perc_ohb.specs.Block.{EndsIn}
-use Rattle.perc_ohb.specs.Rewriting.{block_after}
+use Rattle.perc_ohb.specs.Rewriting.{Rewrite, block_after}
 use Rattle.perc_double.specs.declared.relaying.RelayFault.{RelayFault}
 use Rattle.perc_double.specs.declared.relaying.RelayFault.TheVariants as relaying
 use Rattle.perc_double.specs.Double.{IsNext, IsOpened, as_relayed, opened, relay_place, relayed, relayed_length}
@@ -23,7 +22,7 @@ use Rattle.perc_double.specs.Double.{IsNext, IsOpened, as_relayed, opened, relay
 pub tx_place_by_index : (before : List ℕ) (seq len room : ℕ) → len + 16 ≤ room → tx_place before seq len room ≡ tx_index before seq
 tx_place_by_index before seq len room fits = grind (arith, nat_tests)
 
-pub relay_place_by_index : (before : List ℕ) (h : Header) (octets : List ℕ) (o : Ohb) (c : Change) → relayed_length h octets o c ≤ 1500
+pub relay_place_by_index : (before : List ℕ) (h : Header) (octets : List ℕ) (o : Ohb) (c : Rewrite) → relayed_length h octets o c ≤ 1500
     → relay_place before h octets o c ≡ as_relayed (tx_index before (relayed h c).seq)
 relay_place_by_index before h octets o c fits = grind (arith, nat_tests)
 
@@ -55,7 +54,7 @@ next_by before seq (Ok index) P Q fits is told none = (index, is_next before seq
 next_by before seq (Err f) P Q fits is told none = absurd (none f told)
 
 -- what was sealed has the next index
-pub next_taken : (before : List ℕ) (h : Header) (c : Change) (P : ℕ → Type 0) (Q : TxFault → Type 0) → MatchResult (tx_index before (relayed h c).seq) P Q
+pub next_taken : (before : List ℕ) (h : Header) (c : Rewrite) (P : ℕ → Type 0) (Q : TxFault → Type 0) → MatchResult (tx_index before (relayed h c).seq) P Q
     → ((f : TxFault) → Q f → ⊥) → (index : ℕ) × IsNext before (relayed h c).seq index
 next_taken before h c P Q told none = next_by before (relayed h c).seq (tx_index before (relayed h c).seq) P Q (omega arith) refl told none
 
@@ -95,12 +94,12 @@ octets_are h octets o packet n b is n_is b_is =
 -- ---- the relayed packet
 
 -- the parts of a relayed packet: its header, the inner octets and the block
-pub record ArePartsOf (h : Header) (octets : List ℕ) (o : Ohb) (c : Change) (front mid : List ℕ) (kept : Ohb) : Type 0 where
+pub record ArePartsOf (h : Header) (octets : List ℕ) (o : Ohb) (c : Rewrite) (front mid : List ℕ) (kept : Ohb) : Type 0 where
   pub header : IsPacket (relayed h c) [] front
   pub inner : mid ≡ octets
   pub block_is : kept ≡ block_after h o c
 
-pub parts_length : (h : Header) (octets : List ℕ) (o : Ohb) (c : Change) (front mid : List ℕ) (kept : Ohb) (end : ℕ) → ArePartsOf h octets o c front mid kept
+pub parts_length : (h : Header) (octets : List ℕ) (o : Ohb) (c : Rewrite) (front mid : List ℕ) (kept : Ohb) (end : ℕ) → ArePartsOf h octets o c front mid kept
     → length front ≡ end → end + length mid + length (block.spelling kept) + 16 ≡ relayed_length h octets o c
 parts_length h octets o c front mid kept end parts end_is =
     let s : List ℕ = spelling (relayed h c) in
@@ -109,7 +108,7 @@ parts_length h octets o c front mid kept end parts end_is =
     let s_is : length front ≡ length s = ap length (parts.header.octets ∙ append-nil s) in
     omega (arith, ap length parts.inner, length-append s (octets ++ b), length-append octets b)
 
-pub relayed_told : (h : Header) (octets : List ℕ) (o : Ohb) (c : Change) (front mid out : List ℕ) (kept : Ohb) (end : ℕ) (r : Option ℕ)
+pub relayed_told : (h : Header) (octets : List ℕ) (o : Ohb) (c : Rewrite) (front mid out : List ℕ) (kept : Ohb) (end : ℕ) (r : Option ℕ)
     → ArePartsOf h octets o c front mid kept → length front ≡ end
     → MatchOption r (1500 < end + length mid + length (block.spelling kept) + 16)
     (λ n. (n + 16 ≤ 1500) × (n ≡ end + length mid + length (block.spelling kept)) × (take n out ≡ front ++ (mid ++ block.spelling kept)))

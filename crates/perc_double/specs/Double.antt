@@ -1,6 +1,7 @@
 -- The double transform (RFC 8723 section 5): a packet sealed from end to end over its cut header, and then hop by hop, with
 -- the block of originals between.
 use Rattle.std.specs.Prelude.{◌≡◌, ℕ, ◌+◌, ◌^◌, ◌<◌, false, List, ◌++◌, length, nat_lt, if◌then◌else◌, Option, Some, None, Result, Ok, Err}
+use Rattle.std.specs.Option.{unwrap_or}
 use Rattle.perc_kdf.specs.Derivation.{KeyAndSalt}
 use Rattle.perc_rtp.specs.Header.{Header, IsPacket, spelling}
 use Rattle.perc_rtp.specs.Fields.{cut, with_extension}
@@ -11,11 +12,8 @@ use Rattle.perc_srtp.specs.declared.streams.TxFault.{TxFault}
 use Rattle.perc_srtp.specs.declared.streams.TxFault.TheVariants as tx
 use Rattle.perc_ohb.specs.Block as block
 use Rattle.perc_ohb.specs.Block.{IsOhb}
-use Rattle.perc_ohb.specs.Rewriting.{changed, block_after}
+use Rattle.perc_ohb.specs.Rewriting.{Rewrite, changed, block_after}
 use Rattle.perc_ohb.specs.declared.block.Ohb.{Ohb}
-use Rattle.perc_ohb.specs.declared.rewriting.Change.{Change}
-use Rattle.perc_ohb.specs.declared.rewriting.ExtChange.{ExtChange}
-use Rattle.perc_ohb.specs.declared.rewriting.ExtChange.TheVariants.{Keep, Drop, Set}
 use Rattle.perc_double.specs.declared.relaying.RelayFault.{RelayFault}
 use Rattle.perc_double.specs.declared.relaying.RelayFault.TheVariants as relaying
 
@@ -42,17 +40,12 @@ double outer index h octets o = sealed outer index h (opened octets o)
 
 -- ---- relaying
 
-abbrev pub changed_extension : Option (ℕ × List ℕ) → ExtChange → Option (ℕ × List ℕ)
-changed_extension extension Keep = extension
-changed_extension extension Drop = None
-changed_extension extension (Set profile words) = Some (profile, words.now)
-
 -- the header after a change, its extension too
-abbrev pub relayed : Header → Change → Header
-relayed h c = with_extension (changed_extension h.extension c.extension) (changed h c)
+abbrev pub relayed : Header → Rewrite → Header
+relayed h c = with_extension (unwrap_or c.extension h.extension) (changed h c)
 
 -- how many octets the relayed packet has, sealed
-abbrev pub relayed_length : Header → List ℕ → Ohb → Change → ℕ
+abbrev pub relayed_length : Header → List ℕ → Ohb → Rewrite → ℕ
 relayed_length h octets o c = length (spelling (relayed h c) ++ opened octets (block_after h o c)) + 16
 
 abbrev pub as_relayed : Result ℕ TxFault → Result ℕ RelayFault
@@ -62,7 +55,7 @@ as_relayed (Err (tx.NoIndex seq)) = Err (relaying.NoIndex seq)
 as_relayed (Err (tx.NonceUsed index)) = Err (relaying.NonceUsed index)
 
 -- the index at which it is sealed behind these, or why it isn't relayed: a datagram has at most 1500 octets
-abbrev pub relay_place : List ℕ → Header → List ℕ → Ohb → Change → Result ℕ RelayFault
+abbrev pub relay_place : List ℕ → Header → List ℕ → Ohb → Rewrite → Result ℕ RelayFault
 relay_place before h octets o c =
     if nat_lt 1500 (relayed_length h octets o c) then Err relaying.Room else as_relayed (tx_index before (relayed h c).seq)
 

@@ -8,8 +8,8 @@ ghost use Rattle.perc_srtp.specs.Streams.{tx_index};
 ghost use Rattle.perc_double.specs.Double.{double, nothing_kept, opened};
 ghost use Rattle.perc_double.specs.Double as spec;
 
-use super::parts::{TAG_LEN, put_block, tag_in};
-use perc_gcm::TagMismatch;
+use super::parts::put_block;
+use perc_gcm::{TAG_LEN, TagMismatch, tag_in};
 use perc_ohb::Ohb;
 use perc_rtp::{RtpHead, cut_header};
 use perc_srtp::{Keys, TxFault, TxStream, seal_behind, unseal_behind};

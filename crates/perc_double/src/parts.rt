@@ -1,27 +1,15 @@
 // The parts of double packets.
 ghost use Rattle.std.specs.Prelude.{◌≡◌, ℕ, ◌+◌, ◌*◌, ◌/◌, ◌%◌, ◌<◌, ◌≤◌, List, [], ◌++◌, length, take, drop, Some, IfSome, MatchOption};
+ghost use Rattle.std.specs.Option.{unwrap_or};
 ghost use Rattle.perc_rtp.specs.Header.{Header, IsExtension, IsPacket, extension_octets, spelling};
 ghost use Rattle.perc_rtp.specs.Fields.{IsRtp, cut, with_extension};
 ghost use Rattle.perc_ohb.specs.Block as block;
-ghost use Rattle.perc_ohb.specs.Rewriting.{IsExtChange};
-ghost use Rattle.perc_double.specs.Double.{changed_extension};
+ghost use Rattle.perc_ohb.specs.Rewriting.{IsExtensionSet, extension_set};
 
 use byteorder::{BigEndian, ByteOrder};
+use perc_gcm::TAG_LEN;
 use perc_ohb::{ExtChange, Ohb};
 use perc_rtp::{RtpHead, cut_header};
-
-// How many octets a tag has.
-pub(crate) const TAG_LEN: usize = 16;
-
-// The tag in these octets.
-pub(crate) fn tag_in(octets: &[u8]) -> [u8; 16]
-    requires { length octets.now ≡ 16 }
-    ensures { result ≡ octets.now }
-{
-    let mut tag = [0; TAG_LEN];
-    tag.copy_from_slice(octets);
-    tag
-}
 
 // ---- the end of a packet
 
@@ -81,10 +69,10 @@ fn block_len(ohb: &Ohb) -> usize
 pub(crate) fn write_header(packet: &[u8], extension: ExtChange<'_>, out: &mut [u8; 1500]) -> usize
     requires few { length packet.now ≤ 1500 }
     requires reads { IsRtp packet.now }
-    requires extension { IsExtChange extension }
+    requires extension { IsExtensionSet (extension_set extension) }
     ensures within { result ≤ 1500 }
     ensures header { (h : Header) (rest : List ℕ) → IsPacket h rest packet.now
-        → IsPacket (with_extension (changed_extension h.extension extension.entry) h) [] (take result out.new) }
+        → IsPacket (with_extension (unwrap_or (extension_set extension.entry) h.extension) h) [] (take result out.new) }
 {
     match extension {
         ExtChange::Keep => keep_header(packet, out),

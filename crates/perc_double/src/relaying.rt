@@ -2,7 +2,7 @@
 ghost use Rattle.std.specs.Prelude.{◌≡◌, ℕ, ◌+◌, ◌<◌, ◌≤◌, List, [], ◌∷◌, ◌++◌, length, take, drop, Ok, Err, IfOk, OnErr, IfSome, MatchOption, MatchResult};
 ghost use Rattle.perc_rtp.specs.Header.{Header, IsHeader, IsPacket};
 ghost use Rattle.perc_window.specs.Replay.{StandsFor};
-ghost use Rattle.perc_ohb.specs.Rewriting.{IsChange, block_after, restored};
+ghost use Rattle.perc_ohb.specs.Rewriting.{IsRewrite, block_after, restored, rewrite_of};
 ghost use Rattle.perc_ohb.specs.declared.block.Ohb.{Ohb};
 ghost use Rattle.perc_double.specs.Double.{IsNext, IsOpened, as_relayed, double, opened, relay_place, relayed, relayed_length};
 
@@ -33,25 +33,25 @@ pub fn relay(
     change: &Change<'_>,
 ) -> Result<usize, RelayFault>
     requires within { len ≤ 1500 }
-    requires change { IsChange change.now }
+    requires change { IsRewrite (rewrite_of change.now) }
     requires reads { (h : Header) × (octets : List ℕ) × (o : Ohb) × IsOpened h octets o (take len packet.old) × (h.ssrc ≡ tx.old.ssrc) }
     ensures answer { (before : List ℕ) (h : Header) (octets : List ℕ) (o : Ohb)
         → StandsFor tx.old.window before → IsOpened h octets o (take len packet.old)
-        → MatchResult (relay_place before h octets o change.now)
-        (λ at. (result ≡ Ok (relayed_length h octets o change.now))
-        × (take (relayed_length h octets o change.now) packet.new ≡ double outer.now at (relayed h change.now) octets (block_after h o change.now))
+        → MatchResult (relay_place before h octets o (rewrite_of change.now))
+        (λ at. (result ≡ Ok (relayed_length h octets o (rewrite_of change.now)))
+        × (take (relayed_length h octets o (rewrite_of change.now)) packet.new ≡ double outer.now at (relayed h (rewrite_of change.now)) octets (block_after h o (rewrite_of change.now)))
         × StandsFor tx.new.window (at ∷ before))
         (λ fault. (result ≡ Err fault) × (tx.new ≡ tx.old)) }
     ensures refused { OnErr result (tx.new ≡ tx.old) }
     // No index is sealed twice.
     ensures next { (before : List ℕ) (h : Header) (octets : List ℕ) (o : Ohb)
         → StandsFor tx.old.window before → IsOpened h octets o (take len packet.old)
-        → IfOk result (λ _. (at : ℕ) × IsNext before (relayed h change.now).seq at) }
+        → IfOk result (λ _. (at : ℕ) × IsNext before (relayed h (rewrite_of change.now)).seq at) }
     // The relayed packet reads.
-    ensures reads { (h : Header) (octets : List ℕ) (o : Ohb) → IsOpened h octets o (take len packet.old) → IsHeader (relayed h change.now) }
+    ensures reads { (h : Header) (octets : List ℕ) (o : Ohb) → IsOpened h octets o (take len packet.old) → IsHeader (relayed h (rewrite_of change.now)) }
     // What is restored of the relayed packet is what was restored of the packet.
     ensures restored { (h : Header) (octets : List ℕ) (o : Ohb) → IsOpened h octets o (take len packet.old)
-        → restored (relayed h change.now) (block_after h o change.now) ≡ restored h o }
+        → restored (relayed h (rewrite_of change.now)) (block_after h o (rewrite_of change.now)) ≡ restored h o }
     ensures ssrc { tx.new.ssrc ≡ tx.old.ssrc }
 {
     let mut relayed = [0; 1500];
@@ -71,9 +71,9 @@ pub fn relay(
 /// header, the inner octets, the block and the tag. It is relayed only where these are at most 1500.
 pub fn relayed_len(packet: &[u8], change: &Change<'_>) -> usize
     requires few { length packet.now ≤ 1500 }
-    requires change { IsChange change.now }
+    requires change { IsRewrite (rewrite_of change.now) }
     requires reads { (h : Header) × (octets : List ℕ) × (o : Ohb) × IsOpened h octets o packet.now }
-    ensures { (h : Header) (octets : List ℕ) (o : Ohb) → IsOpened h octets o packet.now → result ≡ relayed_length h octets o change.now }
+    ensures { (h : Header) (octets : List ℕ) (o : Ohb) → IsOpened h octets o packet.now → result ≡ relayed_length h octets o (rewrite_of change.now) }
 {
     let mut header = [0; 1500];
     let parts = change_parts(packet, change, &mut header);
@@ -95,12 +95,12 @@ fn fault_of(fault: TxFault) -> RelayFault
 // where it wouldn't fit with its tag.
 fn write_relayed(packet: &[u8], change: &Change<'_>, out: &mut [u8; 1500]) -> Option<usize>
     requires few { length packet.now ≤ 1500 }
-    requires change { IsChange change.now }
+    requires change { IsRewrite (rewrite_of change.now) }
     requires reads { (h : Header) × (octets : List ℕ) × (o : Ohb) × IsOpened h octets o packet.now }
     ensures { (h : Header) (octets : List ℕ) (o : Ohb) → IsOpened h octets o packet.now
-        → MatchOption result (1500 < relayed_length h octets o change.now)
-        (λ n. (n + 16 ≤ 1500) × (n + 16 ≡ relayed_length h octets o change.now)
-        × IsPacket (relayed h change.now) (opened octets (block_after h o change.now)) (take n out.new)) }
+        → MatchOption result (1500 < relayed_length h octets o (rewrite_of change.now))
+        (λ n. (n + 16 ≤ 1500) × (n + 16 ≡ relayed_length h octets o (rewrite_of change.now))
+        × IsPacket (relayed h (rewrite_of change.now)) (opened octets (block_after h o (rewrite_of change.now))) (take n out.new)) }
 {
     let parts = change_parts(packet, change, out);
     put_body(parts.inner, &parts.ohb, out, parts.header_len)
@@ -117,12 +117,12 @@ struct Parts<'a> {
 // Writes the relayed packet's header to the front of `out`, and answers its parts.
 fn change_parts<'a>(packet: &'a [u8], change: &Change<'_>, out: &mut [u8; 1500]) -> Parts<'a>
     requires few { length packet.now ≤ 1500 }
-    requires change { IsChange change.now }
+    requires change { IsRewrite (rewrite_of change.now) }
     requires reads { (h : Header) × (octets : List ℕ) × (o : Ohb) × IsOpened h octets o packet.now }
     ensures header { (h : Header) (octets : List ℕ) (o : Ohb) → IsOpened h octets o packet.now
-        → IsPacket (relayed h change.now) [] (take result.header_len out.new) }
+        → IsPacket (relayed h (rewrite_of change.now)) [] (take result.header_len out.new) }
     ensures inner { (h : Header) (octets : List ℕ) (o : Ohb) → IsOpened h octets o packet.now → result.inner.now ≡ octets }
-    ensures block { (h : Header) (octets : List ℕ) (o : Ohb) → IsOpened h octets o packet.now → result.ohb ≡ block_after h o change.now }
+    ensures block { (h : Header) (octets : List ℕ) (o : Ohb) → IsOpened h octets o packet.now → result.ohb ≡ block_after h o (rewrite_of change.now) }
     ensures within { (result.header_len ≤ 1500) × (length result.inner.now ≤ 1500) }
     ensures pt { IfSome result.ohb.pt (λ pt. pt < 128) }
 {

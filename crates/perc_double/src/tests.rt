@@ -2,7 +2,7 @@
 ghost use Rattle.std.specs.Prelude.{◌<◌, ◌≤◌, length, IfSome, IsTrue};
 ghost use Rattle.perc_rtp.specs.Header.{IsExtension};
 ghost use Rattle.perc_rtp.specs.Media.{is_payload_type};
-ghost use Rattle.perc_ohb.specs.Rewriting.{IsExtChange};
+ghost use Rattle.perc_ohb.specs.Rewriting.{IsExtensionSet, extension_set};
 
 use crate::{InnerFault, RelayFault, inner_unseal, relay, relayed_len, seal_double};
 use perc_kdf::{Kind, Master};
@@ -203,7 +203,7 @@ fn open_inner(index: u64, packet: &mut [u8]) -> Option<Result<(usize, usize), In
 }
 
 fn has_extension(extension: ExtChange<'_>) -> bool
-    ensures { IsTrue result → IsExtChange extension.entry }
+    ensures { IsTrue result → IsExtensionSet (extension_set extension.entry) }
 {
     match extension {
         ExtChange::Set(profile, words) => is_short_extension(profile, words),

@@ -19,6 +19,9 @@ use hash::{hash_octets, hash_tables};
 use perc_aes::AesKey;
 pub use table::HTable;
 
+/// How many octets a tag has.
+pub const TAG_LEN: usize = 16;
+
 /// The tag is wrong for the additional data and the cipher text.
 #[derive(Clone, Copy, Debug, PartialEq, Eq)]
 pub struct TagMismatch;
@@ -63,6 +66,16 @@ pub fn unseal(
     }
     add_key_stream(key, iv, text);
     Ok(())
+}
+
+/// The tag that these 16 octets are.
+pub fn tag_in(octets: &[u8]) -> [u8; 16]
+    requires { length octets.now ≡ 16 }
+    ensures { result ≡ octets.now }
+{
+    let mut tag = [0; TAG_LEN];
+    tag.copy_from_slice(octets);
+    tag
 }
 
 // The tag of additional data and a cipher text.

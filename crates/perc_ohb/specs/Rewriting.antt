@@ -9,19 +9,33 @@ use Rattle.perc_ohb.specs.declared.rewriting.Change.{Change}
 use Rattle.perc_ohb.specs.declared.rewriting.ExtChange.{ExtChange}
 use Rattle.perc_ohb.specs.declared.rewriting.ExtChange.TheVariants.{Keep, Drop, Set}
 
+-- a change, without where its parts lie in memory: the payload type that is set, what is added to the sequence number, the
+-- marker that is set; and the header extension, or none, that is put in the place of the one there
+pub record Rewrite : Type 0 where
+  pub pt : Option ℕ
+  pub shift : ℕ
+  pub marker : Option Bool
+  pub extension : Option (Option (ℕ × List ℕ))
+
+abbrev pub extension_set : ExtChange → Option (Option (ℕ × List ℕ))
+extension_set Keep = None
+extension_set Drop = Some None
+extension_set (Set profile words) = Some (Some (profile, words.now))
+
+abbrev pub rewrite_of : Change → Rewrite
+rewrite_of c = record { pt = c.pt; shift = c.shift; marker = c.marker; extension = extension_set c.extension }
+
 -- an extension to be set is one, of at most 30 words of 4 octets
-abbrev pub IsExtChange : ExtChange → Type 0
-IsExtChange Keep = Unit {0}
-IsExtChange Drop = Unit {0}
-IsExtChange (Set profile words) = IsExtension (profile, words.now) × (length words.now ≤ 120)
+abbrev pub IsExtensionSet : Option (Option (ℕ × List ℕ)) → Type 0
+IsExtensionSet extension = IfSome extension (λ e. IfSome e (λ x. IsExtension x × (length x.1 ≤ 120)))
 
 -- a payload type to be set is one of RTP's
-pub record IsChange (c : Change) : Type 0 where
+pub record IsRewrite (c : Rewrite) : Type 0 where
   pub pt : IfSome c.pt (λ pt. IsTrue (is_payload_type pt))
-  pub extension : IsExtChange c.extension
+  pub extension : IsExtensionSet c.extension
 
 -- the header after the change; its extension stays here
-abbrev pub changed : Header → Change → Header
+abbrev pub changed : Header → Rewrite → Header
 changed h c = record h {
   pt = unwrap_or c.pt h.pt;
   seq = (h.seq + c.shift) % 2 ^ 16;
@@ -46,7 +60,7 @@ kept_marker kept now new =
     else (if same new (unwrap_or kept now) then None else Some (unwrap_or kept now))
 
 -- the block after the change
-abbrev pub block_after : Header → Ohb → Change → Ohb
+abbrev pub block_after : Header → Ohb → Rewrite → Ohb
 block_after h o c = record {
   pt = kept_number o.pt h.pt (changed h c).pt;
   seq = kept_number o.seq h.seq (changed h c).seq;
@@ -62,10 +76,10 @@ restored h o = record (cut h) {
 }
 
 -- header and block after a list of changes, one after another
-abbrev pub changed_by : List Change → Header → Ohb → Header
+abbrev pub changed_by : List Rewrite → Header → Ohb → Header
 changed_by [] h o = h
 changed_by (c ∷ changes) h o = changed_by changes (changed h c) (block_after h o c)
 
-abbrev pub block_by : List Change → Header → Ohb → Ohb
+abbrev pub block_by : List Rewrite → Header → Ohb → Ohb
 block_by [] h o = o
 block_by (c ∷ changes) h o = block_by changes (changed h c) (block_after h o c)

@@ -1,11 +1,11 @@
 //! What holds of every list of changes.
-ghost use Rattle.std.specs.Prelude.{◌≡◌, ◌↔◌, ℕ, ◌<◌, List, Option, Some, IfSome, Ok, Err};
+ghost use Rattle.std.specs.Prelude.{◌≡◌, ◌↔◌, ℕ, ◌<◌, List, map, Option, Some, IfSome, Ok, Err};
 ghost use Rattle.std.specs.List.{All};
 ghost use Rattle.perc_rtp.specs.Header.{Header, IsHeader, IsOctet, IsPacket};
 ghost use Rattle.perc_rtp.specs.Fields.{IsRtp, with_extension};
 ghost use Rattle.perc_ohb.specs.Block.{EndsIn, IsOhb, ohb_fault};
 ghost use Rattle.perc_ohb.specs.Reading.{block_of};
-ghost use Rattle.perc_ohb.specs.Rewriting.{IsChange, block_after, block_by, changed, changed_by, restored};
+ghost use Rattle.perc_ohb.specs.Rewriting.{IsRewrite, Rewrite, block_after, block_by, changed, changed_by, restored, rewrite_of};
 
 use crate::{Change, Ohb, OhbFault, rewrite};
 
@@ -13,10 +13,10 @@ use crate::{Change, Ohb, OhbFault, rewrite};
 pub fn rewrite_all(header: &mut [u8], ohb: &mut Ohb, changes: &[Change<'_>])
     requires reads { IsRtp header.old }
     requires pt { IfSome ohb.old.pt (λ pt. pt < 128) }
-    requires changes { All IsChange changes.now }
+    requires changes { All (λ c. IsRewrite (rewrite_of c)) changes.now }
     ensures reads { IsRtp header.new }
-    ensures header { (h : Header) (rest : List ℕ) → IsPacket h rest header.old → IsPacket (changed_by changes.now h ohb.old) rest header.new }
-    ensures block { (h : Header) (rest : List ℕ) → IsPacket h rest header.old → ohb.new ≡ block_by changes.now h ohb.old }
+    ensures header { (h : Header) (rest : List ℕ) → IsPacket h rest header.old → IsPacket (changed_by (map rewrite_of changes.now) h ohb.old) rest header.new }
+    ensures block { (h : Header) (rest : List ℕ) → IsPacket h rest header.old → ohb.new ≡ block_by (map rewrite_of changes.now) h ohb.old }
     ensures restored { (g h : Header) (rest after : List ℕ) → IsPacket g rest header.old → IsPacket h after header.new → restored h ohb.new ≡ restored g ohb.old }
 {
     for change in changes {
@@ -40,14 +40,14 @@ pub fn one_reading()
 /// A change leaves what is put back as it was, whatever header and block there were, and whatever becomes of the extension; so
 /// does every list of changes. The function does nothing.
 pub fn originals_put_back()
-    ensures change { (h : Header) (o : Ohb) (c : Change) → restored (changed h c) (block_after h o c) ≡ restored h o }
-    ensures extension { (h : Header) (o : Ohb) (c : Change) (e : Option (ℕ × List ℕ))
+    ensures change { (h : Header) (o : Ohb) (c : Rewrite) → restored (changed h c) (block_after h o c) ≡ restored h o }
+    ensures extension { (h : Header) (o : Ohb) (c : Rewrite) (e : Option (ℕ × List ℕ))
         → restored (with_extension e (changed h c)) (block_after h o c) ≡ restored h o }
-    ensures changes { (h : Header) (o : Ohb) (cs : List Change) → restored (changed_by cs h o) (block_by cs h o) ≡ restored h o }
+    ensures changes { (h : Header) (o : Ohb) (cs : List Rewrite) → restored (changed_by cs h o) (block_by cs h o) ≡ restored h o }
 {}
 
 /// A header that is changed stays one, and so does the block after it. The function does nothing.
 pub fn fields_fit()
-    ensures header { (h : Header) (c : Change) → IsHeader h → IsChange c → IsHeader (changed h c) }
-    ensures block { (h : Header) (o : Ohb) (c : Change) → IsHeader h → IsOhb o → IsOhb (block_after h o c) }
+    ensures header { (h : Header) (c : Rewrite) → IsHeader h → IsRewrite c → IsHeader (changed h c) }
+    ensures block { (h : Header) (o : Ohb) (c : Rewrite) → IsHeader h → IsOhb o → IsOhb (block_after h o c) }
 {}

@@ -3,7 +3,7 @@ ghost use Rattle.std.specs.Prelude.{◌≡◌, ℕ, ◌+◌, ◌%◌, ◌^◌, �
 ghost use Rattle.std.specs.Option.{unwrap_or};
 ghost use Rattle.perc_rtp.specs.Header.{Header, IsPacket, spelling};
 ghost use Rattle.perc_rtp.specs.Fields.{IsRtp, with_marker, with_pt, with_seq};
-ghost use Rattle.perc_ohb.specs.Rewriting.{IsChange, block_after, changed, kept_marker, kept_number, restored};
+ghost use Rattle.perc_ohb.specs.Rewriting.{IsRewrite, block_after, changed, kept_marker, kept_number, restored, rewrite_of};
 
 use super::Ohb;
 use perc_rtp::{RtpHead, cut_header, set_marker, set_pt, set_seq};
@@ -38,10 +38,10 @@ pub enum ExtChange<'a> {
 pub fn rewrite(header: &mut [u8], ohb: &mut Ohb, change: &Change<'_>)
     requires reads { IsRtp header.old }
     requires pt { IfSome ohb.old.pt (λ pt. pt < 128) }
-    requires change { IsChange change.now }
+    requires change { IsRewrite (rewrite_of change.now) }
     ensures reads { IsRtp header.new }
-    ensures header { (h : Header) (rest : List ℕ) → IsPacket h rest header.old → IsPacket (changed h change.now) rest header.new }
-    ensures block { (h : Header) (rest : List ℕ) → IsPacket h rest header.old → ohb.new ≡ block_after h ohb.old change.now }
+    ensures header { (h : Header) (rest : List ℕ) → IsPacket h rest header.old → IsPacket (changed h (rewrite_of change.now)) rest header.new }
+    ensures block { (h : Header) (rest : List ℕ) → IsPacket h rest header.old → ohb.new ≡ block_after h ohb.old (rewrite_of change.now) }
     // What is put back is what was put back before.
     ensures restored { (g h : Header) (rest after : List ℕ) → IsPacket g rest header.old → IsPacket h after header.new → restored h ohb.new ≡ restored g ohb.old }
     ensures kept_pt { IfSome ohb.new.pt (λ pt. pt < 128) }

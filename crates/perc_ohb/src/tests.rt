@@ -1,7 +1,7 @@
 // Blocks, headers and changes that were worked out by hand from RFC 8723.
 ghost use Rattle.std.specs.Prelude.{◌<◌, ◌≤◌, IfSome, IsTrue};
 ghost use Rattle.perc_rtp.specs.Media.{is_payload_type};
-ghost use Rattle.perc_ohb.specs.Rewriting.{IsChange};
+ghost use Rattle.perc_ohb.specs.Rewriting.{IsRewrite, rewrite_of};
 
 use crate::laws::rewrite_all;
 use crate::{Change, ExtChange, Ohb, OhbFault, restore, rewrite};
@@ -78,7 +78,7 @@ const NOTHING: Ohb = Ohb {
 // A change of these three fields.
 fn change_to(pt: Option<u8>, shift: u16, marker: Option<bool>) -> Change<'static>
     requires { IfSome pt (λ pt. IsTrue (is_payload_type pt)) }
-    ensures { IsChange result }
+    ensures { IsRewrite (rewrite_of result) }
 {
     Change {
         pt,

@@ -8,6 +8,7 @@ ghost use Rattle.perc_outer.specs.Places.{IsAt, IsGapFor};
 
 use crate::OuterFault;
 use perc_base::Memory;
+use perc_gcm::TAG_LEN;
 use perc_rtp::RtpHead;
 use perc_srtp::{Keys, RxStream};
 use std::alloc::Global;
@@ -15,9 +16,6 @@ use std::marker::Model;
 
 // How many streams there are at most.
 const MOST_STREAMS: usize = 256;
-
-// How many octets a tag has.
-const TAG_LEN: usize = 16;
 
 /// The outer streams of one direction of an association, at most 256: the SSRCs of the packets that were opened, each with what
 /// its window keeps of the indices accepted under it (RFC 3711 sections 3.2.3 and 3.3.2). All memory is taken when it is made.

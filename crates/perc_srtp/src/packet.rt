@@ -6,11 +6,8 @@ ghost use Rattle.perc_rtp.specs.Fields.{IsRtp};
 ghost use Rattle.perc_srtp.specs.Sealed.{BeginsWith, sealed, sealed_body, unsealed_body};
 
 use super::{Keys, iv};
-use perc_gcm::{TagMismatch, seal, unseal};
+use perc_gcm::{TAG_LEN, TagMismatch, seal, tag_in, unseal};
 use perc_rtp::RtpHead;
-
-/// How many octets a tag has.
-pub(crate) const TAG_LEN: usize = 16;
 
 /// Seals the RTP packet in the first `len` octets at an index, below 2^48 (RFC 7714 section 8), and answers `len` + 16: its
 /// payload becomes the cipher text, and the tag follows. There is room for the tag, and at most 65536 octets in all. What
@@ -81,16 +78,6 @@ fn unseal_body(
 {
     let (header, text) = packet.split_at_mut(cut);
     unseal(&keys.cipher, iv, header, text, tag)
-}
-
-// The tag in these octets.
-pub(crate) fn tag_in(octets: &[u8]) -> [u8; 16]
-    requires { length octets.now ≡ 16 }
-    ensures { result ≡ octets.now }
-{
-    let mut tag = [0; TAG_LEN];
-    tag.copy_from_slice(octets);
-    tag
 }
 
 /// Seals a body at an index, below 2^48, behind a header that stands elsewhere, and answers the tag (RFC 7714 section 8):

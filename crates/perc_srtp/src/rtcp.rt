@@ -7,10 +7,9 @@ ghost use Rattle.perc_srtp.specs.Rtcp.{rtcp_index};
 ghost use Rattle.perc_srtp.specs.Sealed.{BeginsWith, index_word, rtcp_word, sealed_rtcp, unsealed_rtcp};
 ghost use Rattle.perc_srtp.specs.Streams.{rtcp_opened};
 
-use super::packet::{TAG_LEN, tag_in};
 use super::{Keys, rtcp_iv};
 use byteorder::{BigEndian, ByteOrder};
-use perc_gcm::{TagMismatch, seal, unseal};
+use perc_gcm::{TAG_LEN, TagMismatch, seal, tag_in, unseal};
 use perc_window::{Freshness, Window};
 use std::marker::Model;
 

@@ -5,9 +5,8 @@ ghost use Rattle.perc_window.specs.Replay.{StandsFor, freshness_at};
 ghost use Rattle.perc_srtp.specs.Sealed.{BeginsWith, sealed};
 ghost use Rattle.perc_srtp.specs.Streams.{rx_index, rx_opened, tx_index, tx_place};
 
-use super::packet::TAG_LEN;
 use super::{Keys, seal_at, unseal_at};
-use perc_gcm::TagMismatch;
+use perc_gcm::{TAG_LEN, TagMismatch};
 use perc_rtp::RtpHead;
 use perc_window::{Freshness, Window};
 use std::marker::Model;

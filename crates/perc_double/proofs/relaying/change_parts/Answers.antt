@@ -1,8 +1,8 @@
 use Rattle.std.proofs.Common.{ℕ, [], refl, ap, ◌∙◌, arith}
 use Rattle.std.proofs.lemmas.List.{take_at}
 use Rattle.perc_ohb.specs.declared.block.Ohb.{Ohb}
-use Rattle.perc_ohb.specs.Rewriting.{block_after}
-use Rattle.perc_double.specs.Double.{changed_extension}
+use Rattle.perc_ohb.specs.Rewriting.{block_after, rewrite_of}
+use Rattle.std.specs.Option.{unwrap_or}
 use Rattle.perc_rtp.specs.Fields.{with_extension}
 use Rattle.perc_rtp.specs.Header.{Header}
 use Rattle.perc_double.proofs.Building.{head_len}
@@ -17,8 +17,8 @@ unwrap-block-requires c =
 
 pub returns-clause-header : goal.returns-clause-header
 returns-clause-header c = λ h octets o is.
-    let change = c.args.change.now in
-    let g : Header = with_extension (changed_extension h.extension change.extension) h in
+    let change = rewrite_of c.args.change.now in
+    let g : Header = with_extension (unwrap_or change.extension h.extension) h in
     let n = c.write_header-header_len.result in
     let changed = c.rewrite.ensures.header g [] (c.write_header-header_len.ensures.header h _ is.reads) in
     let front = take_at c.rewrite.new.header _ n (omega arith) in
@@ -33,8 +33,8 @@ returns-clause-inner c = λ h octets o is.
 
 pub returns-clause-block : goal.returns-clause-block
 returns-clause-block c = λ h octets o is.
-    let change = c.args.change.now in
-    let g : Header = with_extension (changed_extension h.extension change.extension) h in
+    let change = rewrite_of c.args.change.now in
+    let g : Header = with_extension (unwrap_or change.extension h.extension) h in
     let n_is = head_len h c.read.result c.unwrap-head.result (c.read.ensures.only h _ is.reads) c.unwrap-head.ensures in
     let found = ok_same _ _ c.read_end.result c.unwrap-block.ensures
     (c.read_end.ensures.only o octets (ends_in h octets o c.args.packet.now _ c.unwrap-head.result.len (record { opened = is; len = n_is; part = refl }))) in

@@ -1,26 +1,26 @@
 use Rattle.std.proofs.Common.{◌≡◌, ℕ, ◌+◌, ◌≤◌, length, Ok, sym, ap, ◌∙◌, arith}
 use Rattle.perc_srtp.specs.Streams.{tx_index}
-use Rattle.perc_ohb.specs.Rewriting.{block_after}
+use Rattle.perc_ohb.specs.Rewriting.{block_after, rewrite_of}
 use Rattle.perc_double.specs.Double.{as_relayed, double, opened, relayed, relayed_length}
 use Rattle.perc_double.proofs.Answering.{front_sealed, next_taken, relay_place_by_index, told_relayed, tx_place_by_index}
 use Rattle.perc_double.proofs.RelayLaws.{IsHeader-relayed, restored_relayed}
 use Rattle.perc_double.proofs.relaying.relay.Goals as goal
 
 pub returns-in_default-clause-reads : goal.returns-in_default-clause-reads
-returns-in_default-clause-reads c = λ h octets o is. IsHeader-relayed h c.args.change.now is.reads.header c.requires.change
+returns-in_default-clause-reads c = λ h octets o is. IsHeader-relayed h (rewrite_of c.args.change.now) is.reads.header c.requires.change
 
 pub returns-in_default-clause-restored : goal.returns-in_default-clause-restored
-returns-in_default-clause-restored c = λ h octets o is. restored_relayed h o c.args.change.now
+returns-in_default-clause-restored c = λ h octets o is. restored_relayed h o (rewrite_of c.args.change.now)
 
 pub seal-requires-clause-reads : goal.seal-requires-clause-reads
 seal-requires-clause-reads c =
     let was = c.requires.reads in
     let made = c.in-Some.ensures was.0 was.1 was.2 was.3 in
-    (relayed was.0 c.args.change.now, opened was.1 (block_after was.0 was.2 c.args.change.now), made.2, was.4)
+    (relayed was.0 (rewrite_of c.args.change.now), opened was.1 (block_after was.0 was.2 (rewrite_of c.args.change.now)), made.2, was.4)
 
 pub returns-in-Ok-clause-answer : goal.returns-in-Ok-clause-answer
 returns-in-Ok-clause-answer c = λ before h octets o stands is.
-    let change = c.args.change.now in
+    let change = rewrite_of c.args.change.now in
     let n : ℕ = c.in-Some.len in
     let made = c.in-Some.ensures h octets o is in
     let fits : n + 16 ≤ 1500 = made.0 in
@@ -38,7 +38,7 @@ returns-in-Ok-clause-answer c = λ before h octets o stands is.
 
 pub returns-in-Ok-clause-next : goal.returns-in-Ok-clause-next
 returns-in-Ok-clause-next c = λ before h octets o stands is.
-    let change = c.args.change.now in
+    let change = rewrite_of c.args.change.now in
     let made = c.in-Some.ensures h octets o is in
     let fits : c.in-Some.len + 16 ≤ 1500 = made.0 in
     let by_index = tx_place_by_index before (relayed h change).seq c.in-Some.len (length c.write_relayed.new.out) (omega arith) in
@@ -46,14 +46,14 @@ returns-in-Ok-clause-next c = λ before h octets o stands is.
     next_taken before h change _ _ told (λ f t. let refused = t.0 in cc)
 
 pub returns-in-Ok-clause-reads : goal.returns-in-Ok-clause-reads
-returns-in-Ok-clause-reads c = λ h octets o is. IsHeader-relayed h c.args.change.now is.reads.header c.requires.change
+returns-in-Ok-clause-reads c = λ h octets o is. IsHeader-relayed h (rewrite_of c.args.change.now) is.reads.header c.requires.change
 
 pub returns-in-Ok-clause-restored : goal.returns-in-Ok-clause-restored
-returns-in-Ok-clause-restored c = λ h octets o is. restored_relayed h o c.args.change.now
+returns-in-Ok-clause-restored c = λ h octets o is. restored_relayed h o (rewrite_of c.args.change.now)
 
 pub returns-in-Err-clause-answer : goal.returns-in-Err-clause-answer
 returns-in-Err-clause-answer c = λ before h octets o stands is.
-    let change = c.args.change.now in
+    let change = rewrite_of c.args.change.now in
     let n : ℕ = c.in-Some.len in
     let made = c.in-Some.ensures h octets o is in
     let fits : n + 16 ≤ 1500 = made.0 in
@@ -66,7 +66,7 @@ returns-in-Err-clause-answer c = λ before h octets o stands is.
     (λ f g e t. (sym c.fault_of.ensures ∙ ap as_relayed t.0 ∙ e, t.2)))
 
 pub returns-in-Err-clause-reads : goal.returns-in-Err-clause-reads
-returns-in-Err-clause-reads c = λ h octets o is. IsHeader-relayed h c.args.change.now is.reads.header c.requires.change
+returns-in-Err-clause-reads c = λ h octets o is. IsHeader-relayed h (rewrite_of c.args.change.now) is.reads.header c.requires.change
 
 pub returns-in-Err-clause-restored : goal.returns-in-Err-clause-restored
-returns-in-Err-clause-restored c = λ h octets o is. restored_relayed h o c.args.change.now
+returns-in-Err-clause-restored c = λ h octets o is. restored_relayed h o (rewrite_of c.args.change.now)

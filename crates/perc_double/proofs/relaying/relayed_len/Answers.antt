@@ -1,5 +1,6 @@
 use Rattle.std.proofs.Common.{◌∙◌, arith}
 use Rattle.std.proofs.lemmas.List.{length-take}
+use Rattle.perc_ohb.specs.Rewriting.{rewrite_of}
 use Rattle.perc_double.proofs.Answering.{parts_length}
 use Rattle.perc_double.proofs.relaying.relayed_len.Goals as goal
 
@@ -8,6 +9,6 @@ returns c = λ h octets o is.
     let parts = c.change_parts-parts.ensures in
     let end = c.change_parts-parts.result.header_len in
     c.sealed_len.ensures
-    ∙ parts_length h octets o c.args.change.now _ _ _ end
+    ∙ parts_length h octets o (rewrite_of c.args.change.now) _ _ _ end
     (record { header = parts.header h octets o is; inner = parts.inner h octets o is; block_is = parts.block h octets o is })
     (omega (arith, length-take end c.change_parts-parts.new.out, parts.within))
