@@ -452,30 +452,63 @@ fn as_plain_bodies(rt: HostRuntime) {
 
 // ---- packets for a benchmark
 
-// Seals and opens a packet of 1200 octets with 72 of additional data over and over, and says whether each was opened.
+// Seals and opens packet i of 1200 octets, with 72 of additional data, and says whether it was opened.
+fn passes(sealing: &AesKey, opening: &AesKey, i: u32, text: &mut [u8; 1200]) -> bool {
+    let mut iv = [0; 12];
+    iv[8..].copy_from_slice(&i.to_be_bytes());
+    let tag = seal(sealing, &iv, &[0xa5; 72], text);
+    unseal(opening, &iv, &[0xa5; 72], text, &tag).is_ok()
+}
+
+// Seals and opens so many packets, and says whether each was opened.
 fn packets(key: &AesKey, count: u32) -> bool {
     let mut text = [0x5a; 1200];
-    let mut iv = [0; 12];
     let mut opened = true;
     for i in 0..count {
-        iv[8..].copy_from_slice(&i.to_be_bytes());
-        let tag = seal(key, &iv, &[0xa5; 72], &mut text);
-        opened &= unseal(key, &iv, &[0xa5; 72], &mut text, &tag).is_ok();
+        opened &= passes(key, key, i, &mut text);
     }
     opened && text == [0x5a; 1200]
 }
 
+// The same with the key expanded anew for each call.
+fn packets_anew(key: &[u8], count: u32) -> bool {
+    let mut text = [0x5a; 1200];
+    let mut opened = true;
+    for i in 0..count {
+        let (Some(sealing), Some(opening)) = (AesKey::new(key), AesKey::new(key)) else {
+            return false;
+        };
+        opened &= passes(&sealing, &opening, i, &mut text);
+    }
+    opened && text == [0x5a; 1200]
+}
+
+const KEY: &str = "feffe9928665731c6d6a8f9467308308feffe9928665731c6d6a8f9467308308";
+
 #[test]
 fn packets_128(rt: HostRuntime) {
-    let key = key_of("feffe9928665731c6d6a8f9467308308").expect(&rt, "the length is one of a key");
+    let key = AesKey::new(&octets::<32>(KEY)[..16]).expect(&rt, "the length is one of a key");
     assert!(rt; packets(&key, 500), "a packet didn't open");
 }
 
 #[test]
 fn packets_256(rt: HostRuntime) {
-    let key = key_of("feffe9928665731c6d6a8f9467308308feffe9928665731c6d6a8f9467308308").expect(
-        &rt,
-        "the length is one of a key",
-    );
+    let key = key_of(KEY).expect(&rt, "the length is one of a key");
     assert!(rt; packets(&key, 500), "a packet didn't open");
+}
+
+#[test]
+fn packets_128_anew(rt: HostRuntime) {
+    assert!(rt;
+        packets_anew(&octets::<32>(KEY)[..16], 500),
+        "a packet didn't open"
+    );
+}
+
+#[test]
+fn packets_256_anew(rt: HostRuntime) {
+    assert!(rt;
+        packets_anew(&octets::<32>(KEY), 500),
+        "a packet didn't open"
+    );
 }
