@@ -1,0 +1,6 @@
+mod Standing
+mod Unwrapping
+mod Deciding
+mod Taking
+mod Parts
+mod Hearing

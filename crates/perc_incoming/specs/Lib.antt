@@ -1,0 +1,5 @@
+pub mod Kept
+pub mod Control
+pub mod Granting
+pub mod Asking
+pub mod Outcome
