@@ -169,14 +169,6 @@ impl Outgoing {
         Ok(epoch)
     }
 
-    /// What is answered where this key is to be taken under this SPI, without taking it: the epoch that it would have, or why it
-    /// would be refused.
-    pub fn would_take(&self, spi: u16, key: &[u8]) -> Result<u16, TakeFault>
-        ensures { (o : spec.Outgoing) → StandsFor self.now o → result ≡ take_answer o.sending spi key.now }
-    {
-        self.sender.check_key(spi, key)
-    }
-
     /// Writes an RTCP packet, sealed hop by hop at the next index (RFC 7714 section 9), to the front of `out`, and answers its
     /// length, 20 octets more than `plain` has. The first fault in the order of `RtcpSendFault` is answered. After a refusal no
     /// index is taken, and all is as it was.

@@ -148,7 +148,6 @@ fn keys(rt: HostRuntime) {
     let mut outgoing = started(rt.alloc(), Profile::Aes128, 7).expect(&rt, "there is memory");
     let next = granted(Profile::Aes128, 2);
     assert_eq!(rt; outgoing.rekey(&[0xd1; 16]), Err(TakeFault::Repeated));
-    assert_eq!(rt; outgoing.would_take(1, &[0xd2; 16]), Ok(1));
     assert_eq!(rt; outgoing.rekey(&[0xd2; 16]), Ok(1));
     assert!(rt; is_next(&mut outgoing, 7, 1, 1, ""));
     assert_eq!(rt;

@@ -117,8 +117,8 @@ impl Sender {
         Ok(epoch)
     }
 
-    /// What `take_key` answers for this key, without taking it: the epoch that it would have, or why it would be refused.
-    pub fn check_key(&self, spi: u16, key: &[u8]) -> Result<u16, TakeFault>
+    // The epoch that a key would have, or why it isn't taken.
+    fn check_key(&self, spi: u16, key: &[u8]) -> Result<u16, TakeFault>
         ensures answer { result ≡ take_answer self.now spi key.now }
         ensures epoch { IfOk result (λ epoch. epoch ≡ count_under spi self.now.keys) }
         ensures room { IfOk result (λ _. length self.now.keys < 512) }
