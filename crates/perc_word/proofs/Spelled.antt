@@ -9,9 +9,9 @@ use Rattle.std.specs.Str.{bytes_eq}
 use Rattle.std.proofs.lemmas.Bool.{and_parts, and_from, agree_below_at, both_ways, false_from_ne_true, eqb-true, ne_eqb, cases_eq}
 use Rattle.std.proofs.lemmas.Bool.Decides.{nat_tests}
 use Rattle.std.proofs.lemmas.Slice.Eq.{bytes_eq-Decides}
-use Rattle.hex.specs.Hex.{IsBytes, decode_of, decode_pairs, decode_sized, digit_or_error, hex_digit_value, is_hex_digit, encode_lower, encode_with, lower_digits, pair_value, value_at, ◌>>=◌}
+use Rattle.hex.specs.Hex.{IsBytes, decode_of, decode_pairs, digit_or_error, hex_digit_value, is_hex_digit, encode_lower, encode_with, lower_digits, pair_value, value_at, ◌>>=◌}
 use Rattle.hex.specs.declared.error.FromHexError.{FromHexError}
-use Rattle.hex.proofs.HexLemmas.{length-encode_with, decode_of-even, decode_of-odd, decode_of-ok, decode_of-digits, decode_sized-twice}
+use Rattle.hex.proofs.HexLemmas.{length-encode_with, decode_of-even, decode_of-odd, decode_of-ok, decode_of-digits}
 use Rattle.perc_word.specs.Word.{octets_in, spelled_by, spelled_octets, octets_or_none}
 use Rattle.perc_word.specs.Digits.{is_lower_digit, digit_value, octet_value}
 
@@ -154,12 +154,6 @@ spelled-ok : (digits : List ℕ) (r : Result (List ℕ) FromHexError) → decode
 unfolding decode_pairs encode_with
 spelled-ok digits (Ok octets) e h = e
 spelled-ok digits (Err x) e h = rw h refl
-
-pub decode_sized-back : (digits : List ℕ) (n : ℕ) → digits ≡ encode_lower (spelled_octets digits) → n ≡ length (spelled_octets digits) → decode_sized digits n ≡ Ok (spelled_octets digits)
-decode_sized-back digits n h e =
-    let ok = spelled-ok digits (decode_of digits) refl h in
-    let len = (decode_of-ok digits (spelled_octets digits) ok).2 in
-    decode_sized-twice digits n (omega arith) ∙ ok
 
 -- ---- digits, two for each octet
 
