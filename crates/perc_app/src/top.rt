@@ -27,9 +27,10 @@ pub fn run<I: Source, O: Sink, E: Sink>(
     out: &mut O,
     err: &mut E,
 ) -> Status
-    // Words in no form: nothing is read, and nothing is written but the usage.
+    // Words in no form: the input and the output aren't called, and nothing is written but the usage.
     ensures usage { (IsReplay (map string_bytes words.now) → ⊥) → (result.0 ≡ usage_status)
         × (I.left input.new ≡ I.left input.old) × (O.written out.new ≡ O.written out.old)
+        × (I.fault_count input.new ≡ I.fault_count input.old) × (O.fault_count out.new ≡ O.fault_count out.old)
         × Tells (E.written err.old) (E.written err.new) usage_text (E.fault_count err.old) (E.fault_count err.new) }
 
     // `replay` ends as its script and the outside say, with the status and the text of that end.

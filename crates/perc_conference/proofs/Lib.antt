@@ -5,5 +5,7 @@ mod Mirroring
 mod Turns
 mod Hearing
 mod Saying
+mod LineFeeds
 mod Stepping
+pub mod Beginnings
 mod Running

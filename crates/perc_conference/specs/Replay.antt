@@ -1,5 +1,8 @@
 -- How `replay` ends, over the octets of a script.
-use Rattle.std.specs.Prelude.{◌≡◌, ℕ, ◌++◌, List, [], length, count_by, Option, Some}
+use Rattle.std.specs.Prelude.{◌≡◌, ℕ, ◌≤◌, ◌==◌, ◌++◌, List, [], length, take, count_by, Option, Some}
+use Rattle.std.specs.List.{flat_map}
+use Rattle.perc_report.specs.Script.{Script}
+use Rattle.perc_report.specs.Report.{Report, report_texts}
 use Rattle.perc_report.specs.Conference.{Run, Done, Stopped, run_of, report_of, reported, is_wire, is_accept, is_refuse}
 use Rattle.perc_conference.specs.declared.run.Counts.{Counts}
 use Rattle.perc_conference.specs.declared.run.ReplayEnd.{ReplayEnd}
@@ -21,6 +24,28 @@ pub record IsBeginning (octets before after : List ℕ) : Type 0 where
   pub report : report_of octets ≡ written ++ rest
   pub out : after ≡ before ++ written
 
+-- how many of the octets are line feeds
+abbrev pub line_feeds : List ℕ → ℕ
+line_feeds octets = count_by (λ x. x == 10) octets
+
+-- the octets of the report of the first n lines
+abbrev pub report_of_lines : ℕ → List ℕ → List ℕ
+report_of_lines n octets = report_texts (flat_map (λ (t : Script × List Report). t.1) (take n (run_of octets).turns))
+
+-- The first n lines of the octets were done, and what was written is their report, whole lines of it.
+pub record IsReportOfLines (n : ℕ) (octets before after : List ℕ) : Type 0 where
+  pub done : n ≤ length (run_of octets).turns
+  pub out : after ≡ before ++ report_of_lines n octets
+
+-- These octets were read, and what was written is the report of exactly the lines that stand among them whole, each
+-- with its line feed.
+pub record IsReportOfRead (octets : List ℕ) (left : Option (List ℕ)) (before after : List ℕ) : Type 0 where
+  pub read : List ℕ
+  pub rest : List ℕ
+  pub source : octets ≡ read ++ rest
+  pub kept : left ≡ Some rest
+  pub lines : IsReportOfLines (line_feeds read) octets before after
+
 -- From a source that has these octets left, and a sink that has written some, this end comes with this left and that
 -- written.
 abbrev pub Ends : (octets before : List ℕ) → ReplayEnd → (left : Option (List ℕ)) (after : List ℕ) → Type 0
@@ -29,7 +54,9 @@ Ends octets before (end.Done counts) left after =
     ((run_of octets).end ≡ Done) × (counts ≡ counts_of (run_of octets)) × (left ≡ Some []) × (after ≡ before ++ report_of octets)
 -- a line was refused, and the report of those before it is written
 Ends octets before (end.Script line reason) left after = ((run_of octets).end ≡ Stopped line reason) × (after ≡ before ++ report_of octets)
--- the outside failed, or no memory was found
-Ends octets before end.ReadFault left after = IsBeginning octets before after
+-- a read failed, and the report of the lines that were read whole is written
+Ends octets before end.ReadFault left after = IsReportOfRead octets left before after
+-- a write failed, in the middle of a line it may be
 Ends octets before end.WriteFault left after = IsBeginning octets before after
-Ends octets before end.Memory left after = IsBeginning octets before after
+-- no memory was found, and the report of the lines before is written
+Ends octets before end.Memory left after = (n : ℕ) × IsReportOfLines n octets before after

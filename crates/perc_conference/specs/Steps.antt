@@ -14,10 +14,32 @@ use Rattle.perc_conference.specs.declared.run.ReplayEnd.TheVariants as end
 use Rattle.perc_conference.specs.declared.run.Halt.{Halt}
 use Rattle.perc_conference.specs.declared.run.Halt.TheVariants as halt
 use Rattle.perc_conference.specs.Mirror.{Mirrors, kind_of}
+use Rattle.perc_conference.specs.Replay.{line_feeds}
 
 -- where the reader has seen the end of its source, nothing is left of it
 abbrev pub IsTidy : Held → List ℕ → Type 0
 IsTidy held left = held.ended ≡ true → left ≡ []
+
+-- A line was taken from the octets before the reader. It ends with its one line feed, or with the source.
+pub record TakesLine (held : Held) (left : List ℕ) (now : Held) (later : List ℕ) : Type 0 where
+  pub taken : List ℕ
+  pub octets : held.octets ++ left ≡ taken ++ (now.octets ++ later)
+  pub ends : (line_feeds taken ≡ 1) ⊎ ((now.octets ++ later ≡ []) × (now.ended ≡ true))
+
+-- A read failed: the octets stay before the reader, and of those that were read none is a line feed.
+pub record BreaksOff (held : Held) (left : List ℕ) (now : Held) (later : List ℕ) : Type 0 where
+  pub goes_on : held.ended ≡ true → ⊥
+  pub octets : held.octets ++ left ≡ now.octets ++ later
+  pub no_line : line_feeds now.octets ≡ 0
+
+-- what happens to the octets before the reader
+abbrev pub Takes : Held → List ℕ → Result (Option Told) Halt → Held → List ℕ → Type 0
+Takes held left (Ok None) now later = ⊤
+Takes held left (Ok (Some kind)) now later = TakesLine held left now later
+Takes held left (Err (halt.Script reason)) now later = ⊤
+Takes held left (Err halt.ReadFault) now later = BreaksOff held left now later
+Takes held left (Err halt.WriteFault) now later = ⊤
+Takes held left (Err halt.Memory) now later = ⊤
 
 -- The line was done: it reported these lines and left this state.
 pub record LineGoes (s : State) (line : List ℕ) (reported : List Report) (next : State) : Type 0 where

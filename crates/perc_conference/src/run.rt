@@ -4,7 +4,7 @@ ghost use Rattle.perc_base.specs.Lines.{lines_before};
 ghost use Rattle.perc_base.specs.Outside.{HasRisen};
 ghost use Rattle.perc_report.specs.Conference.{State};
 ghost use Rattle.perc_conference.specs.Mirror.{Mirrors};
-ghost use Rattle.perc_conference.specs.Steps.{IsTidy, Steps, TurnsNext, PastAll, one_of, halted};
+ghost use Rattle.perc_conference.specs.Steps.{BreaksOff, IsTidy, Steps, Takes, TurnsNext, PastAll, one_of, halted};
 ghost use Rattle.perc_conference.specs.Replay.{Ends};
 
 use super::conference::{Conference, Stop, Told};
@@ -118,6 +118,7 @@ fn end_of(line: u32, halt: Halt) -> ReplayEnd
 // How a script ends whose next line is the last that a number is for: that line is refused.
 fn past_all<S: Source>(lines: &mut Lines, input: &mut S, counts: Counts) -> ReplayEnd
     ensures end { IfSome (S.left input.old) (λ all. IsTidy lines.old all → PastAll (lines_before lines.old all) counts result (S.left input.new)) }
+    ensures broken { result ≡ ReplayEnd.ReadFault → IfSome (S.left input.old) (λ all. (later : List ℕ) × (S.left input.new ≡ Some later) × BreaksOff lines.old all lines.new later) }
     ensures failed { result ≡ ReplayEnd.ReadFault → HasRisen (S.fault_count input.old) (S.fault_count input.new) }
     ensures wrote { result ≢ ReplayEnd.WriteFault }
     ensures never_falls { S.fault_count input.old ≤ S.fault_count input.new }
@@ -151,7 +152,8 @@ fn step<I: Source, O: Sink>(
 ) -> Result<Option<Told>, Halt>
     ensures step { (s : State) → Mirrors conference.old s → IfSome (I.left input.old) (λ all. IfSome (O.written out.old) (λ before. IsTidy lines.old all
         → (left after : List ℕ) × (I.left input.new ≡ Some left) × (O.written out.new ≡ Some after) × IsTidy lines.new left
-        × (result ≡ Ok None → left ≡ []) × Steps s (lines_before lines.old all) result before after conference.new (lines_before lines.new left))) }
+        × (result ≡ Ok None → left ≡ []) × Takes lines.old all result lines.new left
+        × Steps s (lines_before lines.old all) result before after conference.new (lines_before lines.new left))) }
     ensures read_fault { result ≡ Err Halt.ReadFault → HasRisen (I.fault_count input.old) (I.fault_count input.new) }
     ensures write_fault { result ≡ Err Halt.WriteFault → HasRisen (O.fault_count out.old) (O.fault_count out.new) }
     ensures reads_never_fall { I.fault_count input.old ≤ I.fault_count input.new }
@@ -177,7 +179,8 @@ fn turn_next<S: Source>(
 ) -> Result<Option<Told>, Halt>
     ensures turn { (s : State) → Mirrors conference.old s → IfSome (S.left input.old) (λ all. IsTidy lines.old all
         → (left : List ℕ) × (S.left input.new ≡ Some left) × IsTidy lines.new left
-        × (result ≡ Ok None → left ≡ []) × TurnsNext s (lines_before lines.old all) result text.old.items text.new.items conference.new (lines_before lines.new left)) }
+        × (result ≡ Ok None → left ≡ []) × Takes lines.old all result lines.new left
+        × TurnsNext s (lines_before lines.old all) result text.old.items text.new.items conference.new (lines_before lines.new left)) }
     ensures read_fault { result ≡ Err Halt.ReadFault → HasRisen (S.fault_count input.old) (S.fault_count input.new) }
     ensures wrote { result ≢ Err Halt.WriteFault }
     ensures never_falls { S.fault_count input.old ≤ S.fault_count input.new }

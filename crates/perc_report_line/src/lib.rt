@@ -12,3 +12,6 @@ mod write;
 
 pub use reasons::{Denial, Loss, Refusal};
 pub use report::ReportLine;
+
+#[cfg(test)]
+mod tests;

@@ -98,10 +98,9 @@ fn is_rtcp(octets: &Octets<'_>) -> bool
     if len < 8 || len > LONGEST_RTCP {
         return false;
     }
-    let mut room = [0; LONGEST_RTCP];
-    let packet = &mut room[..len];
-    octets.write(packet);
-    packet[0] / 64 == 2 && packet[1] >= 192 && packet[1] <= 223
+    let mut front = [0; 2];
+    octets.write_front(&mut front);
+    front[0] / 64 == 2 && front[1] >= 192 && front[1] <= 223
 }
 
 /// A datagram of at most 1500 octets, and the words behind it.

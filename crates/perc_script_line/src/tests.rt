@@ -33,7 +33,8 @@ const SCRIPTS: &[u8] = b"# opening\n\
     send Ann 127 0 4294967295 0102 csrc=00000001,fffffffe ext=bede01020304 pad=7";
 
 // Each form, with the smallest and the largest of each field.
-const GOOD: &[u8] = b"#\n\
+const GOOD: &[u8] = b"\n\
+    #\n\
     # a comment ~\n\
     conference 0009\n\
     conference 000a\n\
@@ -201,6 +202,57 @@ const BAD: &[u8] = b"# a\tcomment\n\
     deliver 1\n\
     Deliver 1 A\n\
     deliver\t1 A\n\
+    conference 0009\x20\n\
+    ekt d1d1d1d1d1d1d1d1d1d1d1d1d1d1d1d 020202020202020202020202\n\
+    ekt d1d1d1d1d1d1d1d1d1d1d1d1d1d1d1d1 02020202020202020202020\n\
+    ekt d1d1d1d1d1d1d1d1d1d1d1d1d1d1d1d1 0A0A0A0A0A0A0A0A0A0A0A0A\n\
+    join A 0000000 0 c1c1c1c1c1c1c1c1c1c1c1c1c1c1c1c1c1c1c1c1c1c1c1c1c1c1c1c1 c3c3c3c3c3c3c3c3c3c3c3c3c3c3c3c3c3c3c3c3c3c3c3c3c3c3c3c3 d1d1d1d1d1d1d1d1d1d1d1d1d1d1d1d1\n\
+    join A 00000000 01 c1c1c1c1c1c1c1c1c1c1c1c1c1c1c1c1c1c1c1c1c1c1c1c1c1c1c1c1 c3c3c3c3c3c3c3c3c3c3c3c3c3c3c3c3c3c3c3c3c3c3c3c3c3c3c3c3 d1d1d1d1d1d1d1d1d1d1d1d1d1d1d1d1\n\
+    join A 00000000 0 C1C1C1C1C1C1C1C1C1C1C1C1C1C1C1C1C1C1C1C1C1C1C1C1C1C1C1C1 c3c3c3c3c3c3c3c3c3c3c3c3c3c3c3c3c3c3c3c3c3c3c3c3c3c3c3c3 d1d1d1d1d1d1d1d1d1d1d1d1d1d1d1d1\n\
+    join A 00000000 0 c1c1c1c1c1c1c1c1c1c1c1c1c1c1c1c1c1c1c1c1c1c1c1c1c1c1c1c1 c3c3c3c3c3c3c3c3c3c3c3c3c3c3c3c3c3c3c3c3c3c3c3c3c3c3c3c3 D1D1D1D1D1D1D1D1D1D1D1D1D1D1D1D1\n\
+    join A 00000000 0 c1c1c1c1c1c1c1c1c1c1c1c1c1c1c1c1c1c1c1c1c1c1c1c1c1c1c1c1 c3c3c3c3c3c3c3c3c3c3c3c3c3c3c3c3c3c3c3c3c3c3c3c3c3c3c3c3 d1d1d1d1d1d1d1d1d1d1d1d1d1d1d1d\n\
+    grant A 0 d1d1d1d1d1d1d1d1d1d1d1d1d1d1d1d11\n\
+    grant A 0 D1D1D1D1D1D1D1D1D1D1D1D1D1D1D1D1\n\
+    grant A 0 d1d1d1d1d1d1d1d1d1d1d1d1d1d1d1d1 0\n\
+    rekey A D1D1D1D1D1D1D1D1D1D1D1D1D1D1D1D1\n\
+    rekey A d1d1d1d1d1d1d1d1d1d1d1d1d1d1d1d1 0\n\
+    send A 0 0 01 -\n\
+    send A 0 0 0 - pad=1 csrc=00000000\n\
+    send A 0 0 0 - csrc=0000000\n\
+    send A 0 0 0 - csrc=DEADBEEF\n\
+    send A 0 0 0 - ext=abc\n\
+    send A 0 0 0 - ext=abcd pad=1 0\n\
+    rtcp A 80c000000000000\n\
+    rtcp A 80C0000000000000\n\
+    inject 0F\n\
+    alter 00 0 00\n\
+    alter 0 0 0\n\
+    alter 0 0 0F\n\
+    alter 0 0 00 0\n\
+    graft 00 0 0 0\n\
+    graft 0 00 0 0\n\
+    graft 0 0 00 0\n\
+    graft 0 0 0 00\n\
+    reseal 4294967296 A 0\n\
+    reseal 00 A 0\n\
+    reseal 0 A 00\n\
+    reseal 0 A 0 pt=00\n\
+    reseal 0 A 0 shift=01\n\
+    reseal 0 A 0 marker=0 marker=0\n\
+    reseal 0 A 0 ext=drop ext=drop\n\
+    reseal 0 A 0 ext=abc\n\
+    reseal 0 A 0 ext=ABCD\n\
+    reseal 0 A 0 0\n\
+    forward A 0,00\n\
+    forward A 0,4294967296\n\
+    forward A 0 pt=128\n\
+    forward A 0 pt=0 pt=0\n\
+    forward A 0 marker=0 shift=0\n\
+    forward A 0 shift=65536\n\
+    forward A 0 ext=abcd0\n\
+    forward A 0 ext=DROP\n\
+    forward A 0 0\n\
+    deliver 1 A 0\n\
     accept 1 A";
 
 // Lines whose keys are all of the shorter profile's length.
@@ -222,23 +274,52 @@ const MIXED_KEYS: &[u8] =
     join A 00000000 0 c1c1c1c1c1c1c1c1c1c1c1c1c1c1c1c1c1c1c1c1c1c1c1c1c1c1c1c1 c2c2c2c2c2c2c2c2c2c2c2c2c2c2c2c2c2c2c2c2c2c2c2c2c2c2c2c2c2c2c2c2c2c2c2c2c2c2c2c2c2c2c2c2 d1d1d1d1d1d1d1d1d1d1d1d1d1d1d1d1\n\
     join A 00000000 0 c1c1c1c1c1c1c1c1c1c1c1c1c1c1c1c1c1c1c1c1c1c1c1c1c1c1c1c1 c3c3c3c3c3c3c3c3c3c3c3c3c3c3c3c3c3c3c3c3c3c3c3c3c3c3c3c3 d2d2d2d2d2d2d2d2d2d2d2d2d2d2d2d2d2d2d2d2d2d2d2d2d2d2d2d2d2d2d2d2";
 
-#[test]
-fn reads_lines(rt: HostRuntime) {
-    assert!(rt; ScriptLine::read(b"").is_some());
-    for line in SCRIPTS.split(|octet| *octet == b'\n') {
-        assert!(rt; ScriptLine::read(line).is_some(), "{:?}", line);
+// The first of the lines that is read where it shouldn't be, or isn't where it should.
+fn first_wrong(lines: &[u8], read: bool) -> Option<&[u8]> {
+    for line in lines.split(|octet| *octet == b'\n') {
+        if ScriptLine::read(line).is_some() != read {
+            return Some(line);
+        }
     }
-    for line in GOOD.split(|octet| *octet == b'\n') {
-        assert!(rt; ScriptLine::read(line).is_some(), "{:?}", line);
-    }
+    None
 }
 
 #[test]
-fn refuses_other_lines(rt: HostRuntime) {
-    for line in BAD.split(|octet| *octet == b'\n') {
-        assert!(rt; ScriptLine::read(line).is_none(), "{:?}", line);
-    }
+fn reads_lines(rt: HostRuntime) {
+    assert_eq!(rt; first_wrong(SCRIPTS, true), None);
+    assert_eq!(rt; first_wrong(GOOD, true), None);
+    assert_eq!(rt; first_wrong(BAD, false), None);
 }
+
+// Lines that have a part so often, and whether they are read.
+const COUNTED: [(&[u8], &[u8], u32, &[u8], bool); 20] = [
+    (b"send A 0 0 0 ", b"5a", 1200, b"", true),
+    (b"send A 0 0 0 ", b"5a", 1201, b"", false),
+    (b"send A 0 0 0 ", b"5a", 1199, b" pad=1", true),
+    (b"send A 0 0 0 ", b"5a", 1199, b" pad=2", false),
+    (b"send A 0 0 0 - ext=bede", b"00000000", 30, b"", true),
+    (b"send A 0 0 0 - ext=bede", b"00000000", 31, b"", false),
+    (b"send A 0 0 0 - csrc=00000000", b",ffffffff", 14, b"", true),
+    (
+        b"send A 0 0 0 - csrc=00000000",
+        b",ffffffff",
+        15,
+        b"",
+        false,
+    ),
+    (b"rtcp A 80c9", b"00", 6, b"", true),
+    (b"rtcp A 80c9", b"00", 5, b"", false),
+    (b"rtcp A 80c9", b"00", 1198, b"", true),
+    (b"rtcp A 80c9", b"00", 1199, b"", false),
+    (b"inject ", b"00", 1500, b"", true),
+    (b"inject ", b"00", 1501, b"", false),
+    (b"alter 1 0 ", b"00", 3000, b"", true),
+    (b"reseal 1 A 0 ext=bede", b"00000000", 31, b"", false),
+    (b"forward A 1", b",1", 31, b"", true),
+    (b"forward A 1", b",1", 32, b"", false),
+    (b"forward A 1 to=A", b",A", 63, b"", true),
+    (b"forward A 1 to=A", b",A", 64, b"", false),
+];
 
 // Whether the line with the part standing so often is read.
 fn is_read(
@@ -257,56 +338,12 @@ fn is_read(
 }
 
 #[test]
-fn bounds_sends(rt: HostRuntime) -> Result<(), Fail> {
-    let alloc = rt.alloc();
-    assert!(rt; is_read(alloc, b"send A 0 0 0 ", b"5a", 1200, b"")?);
-    assert!(rt; !is_read(alloc, b"send A 0 0 0 ", b"5a", 1201, b"")?);
-    assert!(rt; is_read(alloc, b"send A 0 0 0 ", b"5a", 1199, b" pad=1")?);
-    assert!(rt; !is_read(alloc, b"send A 0 0 0 ", b"5a", 1199, b" pad=2")?);
-    assert!(rt; is_read(alloc, b"send A 0 0 0 - ext=bede", b"00000000", 30, b"")?);
-    assert!(rt; !is_read(alloc, b"send A 0 0 0 - ext=bede", b"00000000", 31, b"")?);
-    assert!(rt;
-        is_read(
-            alloc,
-            b"send A 0 0 0 - csrc=00000000",
-            b",ffffffff",
-            14,
-            b""
-        )?
-    );
-    assert!(rt;
-        !is_read(
-            alloc,
-            b"send A 0 0 0 - csrc=00000000",
-            b",ffffffff",
-            15,
-            b""
-        )?
-    );
-    Ok(())
-}
-
-#[test]
-fn bounds_packets(rt: HostRuntime) -> Result<(), Fail> {
-    let alloc = rt.alloc();
-    assert!(rt; is_read(alloc, b"rtcp A 80c9", b"00", 6, b"")?);
-    assert!(rt; !is_read(alloc, b"rtcp A 80c9", b"00", 5, b"")?);
-    assert!(rt; is_read(alloc, b"rtcp A 80c9", b"00", 1198, b"")?);
-    assert!(rt; !is_read(alloc, b"rtcp A 80c9", b"00", 1199, b"")?);
-    assert!(rt; is_read(alloc, b"inject ", b"00", 1500, b"")?);
-    assert!(rt; !is_read(alloc, b"inject ", b"00", 1501, b"")?);
-    assert!(rt; is_read(alloc, b"alter 1 0 ", b"00", 3000, b"")?);
-    Ok(())
-}
-
-#[test]
-fn bounds_lists(rt: HostRuntime) -> Result<(), Fail> {
-    let alloc = rt.alloc();
-    assert!(rt; !is_read(alloc, b"reseal 1 A 0 ext=bede", b"00000000", 31, b"")?);
-    assert!(rt; is_read(alloc, b"forward A 1", b",1", 31, b"")?);
-    assert!(rt; !is_read(alloc, b"forward A 1", b",1", 32, b"")?);
-    assert!(rt; is_read(alloc, b"forward A 1 to=A", b",A", 63, b"")?);
-    assert!(rt; !is_read(alloc, b"forward A 1 to=A", b",A", 64, b"")?);
+fn bounds_lengths(rt: HostRuntime) -> Result<(), Fail> {
+    let rows = COUNTED;
+    for (before, part, count, behind, want) in &rows {
+        let read = is_read(rt.alloc(), before, part, *count, behind)?;
+        assert_eq!(rt; read, *want, "{:?}", before);
+    }
     Ok(())
 }
 

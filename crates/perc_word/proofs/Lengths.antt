@@ -1,13 +1,12 @@
 -- Octets that are spelled in a line.
-use Rattle.std.proofs.Common.{◌≡◌, ℕ, ◌/◌, List, length, Ok, sym, ap, ◌∙◌, arith}
+use Rattle.std.proofs.Common.{◌≡◌, ℕ, ◌/◌, List, length, ap, ◌∙◌, arith}
 use Rattle.std.specs.Borrow.{Bor}
-use Rattle.hex.specs.Hex.{decode_sized, lower_digits}
+use Rattle.hex.specs.Hex.{lower_digits}
 use Rattle.hex.proofs.HexLemmas.{length-encode_with}
 use Rattle.perc_word.specs.Word.{spelled_octets}
 use Rattle.perc_word.specs.Shown.{shown_octets, AreSpelled}
 use Rattle.perc_word.specs.declared.octets.Shown.{Shown}
 use Rattle.perc_word.specs.declared.octets.Shown.TheVariants.{Digits}
-use Rattle.perc_word.proofs.Spelled.{decode_sized-back}
 
 -- two digits for each octet
 pub spelled_len : (digits : Bor (List ℕ)) (shown : Shown) (octets : List ℕ) → shown ≡ Digits digits → AreSpelled shown → shown_octets shown ≡ octets → length digits.now / 2 ≡ length octets
@@ -18,10 +17,3 @@ spelled_len digits shown octets is spelled view =
     let v : spelled_octets digits.now ≡ octets = rw is at view in
     let half : length digits.now / 2 ≡ length (spelled_octets digits.now) = omega arith in
     half ∙ ap length v
-
--- they decode to these octets
-pub spelled_decode : (digits : Bor (List ℕ)) (shown : Shown) (octets : List ℕ) (n : ℕ) → shown ≡ Digits digits → AreSpelled shown → shown_octets shown ≡ octets → n ≡ length octets → decode_sized digits.now n ≡ Ok octets
-spelled_decode digits shown octets n is spelled view len =
-    let h : AreSpelled (Digits digits) = rw is at spelled in
-    let v : spelled_octets digits.now ≡ octets = rw is at view in
-    decode_sized-back digits.now n h (len ∙ ap length (sym v)) ∙ ap Ok v

@@ -1,17 +1,19 @@
 -- Octets and their spelling in lower-case hexadecimal.
-use Rattle.std.proofs.Common.{◌≡◌, ℕ, suc, ◌+◌, ◌*◌, ◌/◌, ◌%◌, ◌<◌, ◌==◌, Bool, true, false, ◌||◌, not, inl, inr, List, [], ◌∷◌, length, slice_index, Option, Some, None, unwrap_or, Result, Ok, Err, refl, sym, ap, ◌∙◌, arith}
+use Rattle.std.proofs.Common.{◌≡◌, ℕ, zero, suc, ◌+◌, ◌*◌, ◌/◌, ◌%◌, ◌<◌, ◌≤◌, ◌==◌, Bool, true, false, ◌||◌, not, inl, inr, List, [], ◌∷◌, ◌++◌, length, take, set, get_or, slice_index, Option, Some, None, unwrap_or, Result, Ok, Err, refl, sym, ap, ◌∙◌, arith}
 use Rattle.std.specs.List.{AllPass, list_all}
+use Rattle.std.proofs.lemmas.List.{take_more_set}
+use Rattle.std.proofs.lemmas.Grind.{take_at_read}
 use Rattle.std.proofs.lemmas.List.Elements.{All-cons, All-nil}
 use Rattle.std.specs.Result.{result_unwrap_or}
 use Rattle.std.specs.Str.{bytes_eq}
 use Rattle.std.proofs.lemmas.Bool.{and_parts, and_from, agree_below_at, both_ways, false_from_ne_true, eqb-true, ne_eqb, cases_eq}
 use Rattle.std.proofs.lemmas.Bool.Decides.{nat_tests}
 use Rattle.std.proofs.lemmas.Slice.Eq.{bytes_eq-Decides}
-use Rattle.hex.specs.Hex.{IsBytes, decode_of, decode_pairs, decode_sized, digit_or_error, hex_digit_value, is_hex_digit, encode_lower, encode_with, lower_digits, pair_value, value_at, ◌>>=◌}
+use Rattle.hex.specs.Hex.{IsBytes, decode_of, decode_pairs, digit_or_error, hex_digit_value, is_hex_digit, encode_lower, encode_with, lower_digits, pair_value, value_at, ◌>>=◌}
 use Rattle.hex.specs.declared.error.FromHexError.{FromHexError}
-use Rattle.hex.proofs.HexLemmas.{decode_of-even, decode_of-odd, decode_of-ok, decode_of-digits, decode_sized-twice}
+use Rattle.hex.proofs.HexLemmas.{length-encode_with, decode_of-even, decode_of-odd, decode_of-ok, decode_of-digits}
 use Rattle.perc_word.specs.Word.{octets_in, spelled_by, spelled_octets, octets_or_none}
-use Rattle.perc_word.specs.Digits.{is_lower_digit}
+use Rattle.perc_word.specs.Digits.{is_lower_digit, digit_value, octet_value}
 
 -- ---- one digit
 
@@ -153,8 +155,40 @@ unfolding decode_pairs encode_with
 spelled-ok digits (Ok octets) e h = e
 spelled-ok digits (Err x) e h = rw h refl
 
-pub decode_sized-back : (digits : List ℕ) (n : ℕ) → digits ≡ encode_lower (spelled_octets digits) → n ≡ length (spelled_octets digits) → decode_sized digits n ≡ Ok (spelled_octets digits)
-decode_sized-back digits n h e =
-    let ok = spelled-ok digits (decode_of digits) refl h in
-    let len = (decode_of-ok digits (spelled_octets digits) ok).2 in
-    decode_sized-twice digits n (omega arith) ∙ ok
+-- ---- digits, two for each octet
+
+-- each digit of the table has its place as its value, which computes
+digit-value : (d : ℕ) → d < 16 → digit_value (slice_index lower_digits d) ≡ d
+digit-value d h = eqb-true _ d (agree_below_at (λ k. digit_value (slice_index lower_digits k) == k) (λ _. true) 16 d refl h)
+
+octet-value : (x a b : ℕ) → x < 256 → digit_value a ≡ x / 16 → digit_value b ≡ x % 16 → octet_value a b ≡ x
+octet-value x a b small high low = rw (high, low) (omega arith)
+
+-- the two digits of an octet
+pub octet_at : (xs : List ℕ) (i : ℕ) → IsBytes xs → i < length xs → octet_value (get_or (encode_lower xs) (2 * i) 0) (get_or (encode_lower xs) (2 * i + 1) 0) ≡ get_or xs i 0
+unfolding encode_with
+octet_at [] i bytes lt = absurd (omega arith)
+octet_at (x ∷ xs) zero bytes lt =
+    let small : x < 256 = bytes 0 in
+    octet-value x _ _ small (digit-value (x / 16) (omega arith)) (digit-value (x % 16) (omega arith))
+octet_at (x ∷ xs) (suc i) bytes lt =
+    let high : 2 * suc i ≡ suc (suc (2 * i)) = omega arith in
+    let low : suc (suc (2 * i)) + 1 ≡ suc (suc (2 * i + 1)) = omega arith in
+    rw (high, low) (octet_at xs i (λ k. bytes (suc k)) (omega arith))
+
+-- what digits spell are octets
+pub spelled_bytes : (digits : List ℕ) → digits ≡ encode_lower (spelled_octets digits) → IsBytes (spelled_octets digits)
+spelled_bytes digits h = (decode_of-ok digits (spelled_octets digits) (spelled-ok digits (decode_of digits) refl h)).3
+
+-- there are two for each octet
+pub spelled_twice : (digits : List ℕ) → digits ≡ encode_lower (spelled_octets digits) → length digits ≡ 2 * length (spelled_octets digits)
+spelled_twice digits h = ap length h ∙ length-encode_with lower_digits (spelled_octets digits)
+
+-- the octet of two digits
+pub octet_of_two : (digits : List ℕ) (i : ℕ) → digits ≡ encode_lower (spelled_octets digits) → i < length (spelled_octets digits) → octet_value (get_or digits (2 * i) 0) (get_or digits (2 * i + 1) 0) ≡ get_or (spelled_octets digits) i 0
+octet_of_two digits i h lt =
+    ap (λ xs. octet_value (get_or xs (2 * i) 0) (get_or xs (2 * i + 1) 0)) h ∙ octet_at (spelled_octets digits) i (spelled_bytes digits h) lt
+
+-- an octet more of them
+pub decode_more : (out octets : List ℕ) (i v : ℕ) → i < length out → length out ≤ length octets → v ≡ get_or octets i 0 → take i out ≡ take i octets → take (i + 1) (set out i v) ≡ take (i + 1) octets
+decode_more out octets i v lt le e h = take_more_set out i v lt ∙ ap (λ front. front ++ v ∷ []) h ∙ ap (λ x. take i octets ++ x ∷ []) e ∙ sym (take_at_read octets i 0 (omega arith)).1

@@ -2,14 +2,14 @@
 use Rattle.std.proofs.Common.{◌≡◌, ℕ, Bool, true, false, not, inl, inr, List, [], ◌∷◌, ◌++◌, length, take, drop, Option, Some, None, IfSome, refl, sym, ap, ◌∙◌, subst, take-append-drop, arith}
 use Rattle.std.specs.Prelude.{option_and_then, is_some, ◌≤◌}
 use Rattle.std.specs.Option.{option_map}
-use Rattle.std.specs.List.{list_all}
+use Rattle.std.specs.List.{list_all, join_with_byte}
 use Rattle.std.specs.Str.{bytes_eq}
 use Rattle.std.specs.Borrow.{Bor}
-use Rattle.std.proofs.lemmas.Bool.{and_from, cases_Bool, not-true}
-use Rattle.std.proofs.lemmas.List.{take_at, drop_at}
-use Rattle.perc_word.specs.Word.{words_of, next_in, end_of, ends, option_in, option_words}
+use Rattle.std.proofs.lemmas.Bool.{and_from, both_ways, cases_Bool, not-true}
+use Rattle.std.proofs.lemmas.List.{append_assoc, take_at, drop_at}
+use Rattle.perc_word.specs.Word.{words_of, next_in, end_of, ends, option_in, option_split, option_words}
 use Rattle.perc_word.specs.Left.{words_left}
-use Rattle.perc_word.proofs.Split.{is_free}
+use Rattle.perc_word.proofs.Split.{is_free, parts-joined}
 use Rattle.perc_word.proofs.Items.{free-append, words-some}
 use Rattle.perc_word.proofs.Spelling.{Spelling, same, itself}
 
@@ -52,6 +52,32 @@ mapped None rest more y h = cc h
 with_prefix : (prefix word text : List ℕ) → bytes_eq (take (length prefix) word) prefix ≡ true → drop (length prefix) word ≡ text → word ≡ prefix ++ text
 with_prefix prefix word text test e =
     sym (take-append-drop (length prefix) word) ∙ ap (λ front. front ++ drop (length prefix) word) (same _ prefix test) ∙ ap (λ back. prefix ++ back) e
+
+-- a word with this prefix makes the line begin with it
+begins : (prefix word : List ℕ) (words : List (List ℕ)) → bytes_eq (take (length prefix) word) prefix ≡ true
+    → (rest : List ℕ) × (join_with_byte 32 (word ∷ words) ≡ prefix ++ rest)
+begins prefix word [] test = (drop (length prefix) word, with_prefix prefix word (drop (length prefix) word) test refl)
+begins prefix word (next ∷ words) test =
+    let behind = 32 ∷ join_with_byte 32 (next ∷ words) in
+    (drop (length prefix) word ++ behind, ap (λ w. w ++ behind) (with_prefix prefix word (drop (length prefix) word) test refl) ∙ append_assoc prefix (drop (length prefix) word) behind)
+
+begun : (prefix rest text : List ℕ) → text ≡ prefix ++ rest → bytes_eq (take (length prefix) text) prefix ≡ true
+begun prefix rest text e =
+    ap (λ xs. bytes_eq (take (length prefix) xs) prefix) e ∙ ap (λ xs. bytes_eq xs prefix) (take_at prefix rest (length prefix) refl) ∙ itself prefix
+
+other_words : (prefix text : List ℕ) (words : List (List ℕ)) → text ≡ join_with_byte 32 words → bytes_eq (take (length prefix) text) prefix ≡ false → option_split prefix words ≡ (None, words)
+other_words prefix text [] e other = refl
+other_words prefix text (word ∷ words) e other =
+    elim (cases_Bool (bytes_eq (take (length prefix) word) prefix)) [
+      | inl test ↦
+          let front = begins prefix word words test in
+          absurd (both_ways _ other (begun prefix front.0 text (e ∙ front.1)))
+      | inr differs ↦ rw differs refl
+    ]
+
+-- a line that doesn't begin with the prefix has no option of that prefix in front
+pub other_prefix : (prefix text : List ℕ) → bytes_eq (take (length prefix) text) prefix ≡ false → option_split prefix (words_of text) ≡ (None, words_of text)
+other_prefix prefix text other = other_words prefix text (words_of text) (parts-joined 32 text (words_of text) refl) other
 
 -- what holds of an option's words and all words behind them holds of the words that were read
 pub option_taken : {A B : Type 0} (prefix : List ℕ) (reads : List ℕ → Option A) (text : A → List ℕ) (Fits : A → Type 0) → Spelling reads text Fits

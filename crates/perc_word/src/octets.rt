@@ -1,9 +1,9 @@
 // Octets that are spelled in hexadecimal.
-ghost use Rattle.std.specs.Prelude.{◌≡◌, [], ◌++◌, length, OnOk, OnErr};
+ghost use Rattle.std.specs.Prelude.{◌≡◌, ◌≤◌, [], ◌++◌, length, take, OnOk, OnErr};
 ghost use Rattle.std.specs.List.{list_all};
 ghost use Rattle.hex.specs.Hex.{encode_lower};
-ghost use Rattle.perc_word.specs.Word.{octets_in, payload_in};
-ghost use Rattle.perc_word.specs.Digits.{is_lower_digit};
+ghost use Rattle.perc_word.specs.Word.{octets_in, payload_in, spelled_octets};
+ghost use Rattle.perc_word.specs.Digits.{is_lower_digit, digit_value, octet_value};
 
 use std::alloc::AllocError;
 use std::marker::Model;
@@ -80,12 +80,17 @@ impl<'a> Octets<'a> {
         requires { length out.old ≡ length self.now }
         ensures { out.new ≡ self.now }
     {
+        self.write_front(out)
+    }
+
+    /// Writes the first octets into a buffer, as many as there is room for.
+    pub fn write_front(&self, out: &mut [u8])
+        requires { length out.old ≤ length self.now }
+        ensures { out.new ≡ take (length out.old) self.now }
+    {
         match self.shown {
-            Shown::Digits(digits) => {
-                // It doesn't fail: all digits are good, and there are two for each octet.
-                let _ = hex::decode_to_slice(digits, out);
-            }
-            Shown::Plain(octets) => out.copy_from_slice(octets),
+            Shown::Digits(digits) => decode(digits, out),
+            Shown::Plain(octets) => out.copy_from_slice(&octets[..out.len()]),
         }
     }
 
@@ -114,6 +119,31 @@ fn spell_plain(octets: &[u8], out: &mut Vec<u8>) -> Result<(), AllocError>
     // It doesn't fail: there is room for two digits for each octet.
     let _ = hex::encode_to_slice(octets, &mut out[before..]);
     Ok(())
+}
+
+// The first octets that the digits spell, as many as there is room for.
+fn decode(digits: &[u8], out: &mut [u8])
+    requires spelled { digits.now ≡ encode_lower (spelled_octets digits.now) }
+    requires room { length out.old ≤ length (spelled_octets digits.now) }
+    ensures { out.new ≡ take (length out.old) (spelled_octets digits.now) }
+{
+    for i in 0..out.len() {
+        out[i] = octet_of(digits[2 * i], digits[2 * i + 1]);
+    }
+}
+
+// The octet of two digits.
+fn octet_of(high: u8, low: u8) -> u8
+    ensures { result ≡ octet_value high low }
+{
+    digit_of(high).wrapping_mul(16).wrapping_add(digit_of(low))
+}
+
+// The value of a digit, with no branch: decimal digits and letters take turns in no order.
+fn digit_of(digit: u8) -> u8
+    ensures { result ≡ digit_value digit }
+{
+    digit % 16 + 9 * (digit / 64)
 }
 
 // Whether all octets are lower-case hexadecimal digits.

@@ -1,172 +1,171 @@
 // Words as the grammar gives them, worked out by hand.
-ghost use Rattle.std.specs.Iterator.{IsFinite};
-
-use super::{Datagrams, Name, Names, Octets, Ssrcs, next_option, next_word, number, ssrc, uuid};
-use std::alloc::{AllocError, Global};
+use super::{
+    Datagrams, Name, Names, Octets, Ssrcs, marker, next_option, next_word, number, payload_type,
+    ssrc, uuid,
+};
 use std::test::Fail;
 
-// The kinds of words.
-#[derive(Clone, Copy)]
-enum Kind {
-    Name,
-    Number,
-    Index,
-    Octets,
-    Payload,
-    Ssrc,
-    Uuid,
-    Ssrcs,
-    Datagrams,
-    Names,
-}
+const NUMBERS: [(&[u8], Option<u64>); 11] = [
+    (b"0", Some(0)),
+    (b"7", Some(7)),
+    (b"281474976710655", Some(281474976710655)),
+    (b"281474976710656", None),
+    (b"00", None),
+    (b"01", None),
+    (b"+1", None),
+    (b"-1", None),
+    (b"1a", None),
+    (b"", None),
+    (b"99999999999999999999999999", None),
+];
 
-// What a word says, spelled by the tests' own means.
-fn described(alloc: Global, kind: Kind, word: &[u8]) -> Result<Option<String>, AllocError> {
-    Ok(match kind {
-        Kind::Name => match Name::read(word) {
-            Some(name) => Some(String::from_str(alloc, spelled(&name))?),
-            None => None,
-        },
-        Kind::Number => match number(word, 65535) {
-            Some(number) => Some(format!(in alloc; "{number}")?),
-            None => None,
-        },
-        Kind::Index => match number(word, 281474976710655) {
-            Some(index) => Some(format!(in alloc; "{index}")?),
-            None => None,
-        },
-        Kind::Octets => match Octets::read(word) {
-            Some(octets) => Some(hexadecimal(alloc, &octets)?),
-            None => None,
-        },
-        Kind::Payload => match Octets::read_payload(word) {
-            Some(octets) => Some(hexadecimal(alloc, &octets)?),
-            None => None,
-        },
-        Kind::Ssrc => match ssrc(word) {
-            Some(ssrc) => Some(format!(in alloc; "{ssrc}")?),
-            None => None,
-        },
-        Kind::Uuid => match uuid(word) {
-            Some(octets) => Some(hex::encode(alloc, octets.as_slice())?),
-            None => None,
-        },
-        Kind::Ssrcs => match Ssrcs::read(word, 15) {
-            Some(ssrcs) => Some(listed(alloc, ssrcs)?),
-            None => None,
-        },
-        Kind::Datagrams => match Datagrams::read(word, 3) {
-            Some(datagrams) => Some(listed(alloc, datagrams)?),
-            None => None,
-        },
-        Kind::Names => match Names::read(word, 2) {
-            Some(names) => {
-                let mut text = String::new(alloc);
-                for name in names {
-                    text.push_str(spelled(&name))?;
-                    text.push_str(";")?;
-                }
-                Some(text)
-            }
-            None => None,
-        },
-    })
-}
+const PAYLOAD_TYPES: [(&[u8], Option<u8>); 7] = [
+    (b"0", Some(0)),
+    (b"63", Some(63)),
+    (b"64", None),
+    (b"95", None),
+    (b"96", Some(96)),
+    (b"127", Some(127)),
+    (b"128", None),
+];
 
-fn spelled(name: &Name) -> &str {
-    str::from_utf8(name.as_bytes()).unwrap_or("?")
-}
+const MARKERS: [(&[u8], Option<bool>); 5] = [
+    (b"0", Some(false)),
+    (b"1", Some(true)),
+    (b"2", None),
+    (b"01", None),
+    (b"", None),
+];
 
-fn hexadecimal(alloc: Global, octets: &Octets<'_>) -> Result<String, AllocError> {
-    let mut room = vec![in alloc; 0; octets.len()]?;
-    octets.write(&mut room);
-    hex::encode(alloc, room.as_slice())
-}
+const SSRCS: [(&[u8], Option<u32>); 5] = [
+    (b"deadbeef", Some(3735928559)),
+    (b"00000000", Some(0)),
+    (b"111111", None),
+    (b"1111111111", None),
+    (b"DEADBEEF", None),
+];
 
-fn listed<I: Iterator<Item = u32> + Drop>(alloc: Global, numbers: I) -> Result<String, AllocError>
-    requires can { I.can_next numbers }
-    requires ends { IsFinite (I.remaining numbers) }
-{
-    let mut text = String::new(alloc);
-    for number in numbers {
-        let digits = format!(in alloc; "{number};")?;
-        text.push_str(&digits)?;
+#[test]
+fn reads_numbers(rt: HostRuntime) {
+    for (word, want) in &NUMBERS {
+        assert_eq!(rt; number(word, 281474976710655), *want);
     }
-    Ok(text)
+    for (word, want) in &PAYLOAD_TYPES {
+        assert_eq!(rt; payload_type(word), *want);
+    }
+    for (word, want) in &MARKERS {
+        assert_eq!(rt; marker(word), *want);
+    }
+    for (word, want) in &SSRCS {
+        assert_eq!(rt; ssrc(word), *want);
+    }
 }
 
-// One row of the table.
-fn reads(alloc: Global, kind: Kind, word: &[u8], want: Option<&str>) -> Result<bool, AllocError> {
-    let got = described(alloc, kind, word)?;
-    Ok(match (got, want) {
-        (Some(got), Some(want)) => got.as_str() == want,
-        (None, None) => true,
-        _ => false,
-    })
+const NAMES: [(&[u8], bool); 7] = [
+    (b"A", true),
+    (b"A0b1C2d3E4f5G6h7", true),
+    (b"A0b1C2d3E4f5G6h7i", false),
+    (b"ann", false),
+    (b"An-n", false),
+    (b"0A", false),
+    (b"", false),
+];
+
+const OCTETS: [(&[u8], Option<&[u8]>); 9] = [
+    (b"00ff", Some(b"\x00\xff")),
+    (
+        b"0123456789abcdef",
+        Some(b"\x01\x23\x45\x67\x89\xab\xcd\xef"),
+    ),
+    (b"0f0", None),
+    (b"0F", None),
+    (b"0g", None),
+    (b"0:", None),
+    (b"/0", None),
+    (b"-", None),
+    (b"", None),
+];
+
+// Whether the word is read as these octets.
+fn is_read(word: &[u8], want: Option<&[u8]>) -> bool {
+    let Some(octets) = Octets::read(word) else {
+        return want.is_none();
+    };
+    let mut room = [0; 16];
+    if octets.len() > room.len() {
+        return false;
+    }
+    let read = &mut room[..octets.len()];
+    octets.write(read);
+    want == Some(&*read)
 }
 
 #[test]
-fn reads_words(rt: HostRuntime) -> Result<(), Fail> {
-    let alloc = rt.alloc();
-    let rows = [
-        (Kind::Name, b"A".as_slice(), Some("A")),
-        (Kind::Name, b"A0b1C2d3E4f5G6h7", Some("A0b1C2d3E4f5G6h7")),
-        (Kind::Name, b"A0b1C2d3E4f5G6h7i", None),
-        (Kind::Name, b"ann", None),
-        (Kind::Name, b"An-n", None),
-        (Kind::Name, b"", None),
-        (Kind::Number, b"0", Some("0")),
-        (Kind::Number, b"65535", Some("65535")),
-        (Kind::Number, b"65536", None),
-        (Kind::Number, b"00", None),
-        (Kind::Number, b"+1", None),
-        (Kind::Number, b"1a", None),
-        (Kind::Number, b"", None),
-        (Kind::Number, b"99999999999999999999999999", None),
-        (Kind::Index, b"281474976710655", Some("281474976710655")),
-        (Kind::Index, b"281474976710656", None),
-        (Kind::Octets, b"00ff", Some("00ff")),
-        (Kind::Octets, b"0f0", None),
-        (Kind::Octets, b"0F", None),
-        (Kind::Octets, b"0g", None),
-        (Kind::Octets, b"-", None),
-        (Kind::Octets, b"", None),
-        (Kind::Payload, b"-", Some("")),
-        (Kind::Payload, b"5a", Some("5a")),
-        (Kind::Payload, b"--", None),
-        (Kind::Ssrc, b"deadbeef", Some("3735928559")),
-        (Kind::Ssrc, b"00000000", Some("0")),
-        (Kind::Ssrc, b"111111", None),
-        (Kind::Ssrc, b"1111111111", None),
-        (Kind::Ssrc, b"DEADBEEF", None),
-        (
-            Kind::Uuid,
-            b"00112233-4455-6677-8899-aabbccddeeff",
-            Some("00112233445566778899aabbccddeeff"),
-        ),
-        (Kind::Uuid, b"00112233-4455-6677-8899-AABBCCDDEEFF", None),
-        (Kind::Uuid, b"00112233-4455-6677-8899-aabbccddeef", None),
-        (Kind::Uuid, b"0011223-4455-6677-8899-aabbccddeeff", None),
-        (Kind::Uuid, b"00112233445566778899aabbccddeeff", None),
-        (Kind::Uuid, b"{00112233-4455-6677-8899-aabbccddeeff}", None),
-        (Kind::Ssrcs, b"00000001", Some("1;")),
-        (Kind::Ssrcs, b"00000001,ffffffff", Some("1;4294967295;")),
-        (Kind::Ssrcs, b"00000001,", None),
-        (Kind::Ssrcs, b"00000001,1", None),
-        (Kind::Datagrams, b"0", Some("0;")),
-        (Kind::Datagrams, b"7,4294967295,7", Some("7;4294967295;7;")),
-        (Kind::Datagrams, b"1,2,3,4", None),
-        (Kind::Datagrams, b"1,,2", None),
-        (Kind::Datagrams, b"4294967296", None),
-        (Kind::Datagrams, b"", None),
-        (Kind::Names, b"Ann,Bob", Some("Ann;Bob;")),
-        (Kind::Names, b"Ann,bob", None),
-        (Kind::Names, b"Ann,Bob,Cat", None),
-    ];
-    for (kind, word, want) in &rows {
-        assert!(rt; reads(alloc, *kind, word, *want)?, "{:?}", word);
+fn reads_octets(rt: HostRuntime) {
+    for (word, want) in &NAMES {
+        assert_eq!(rt; Name::read(word).is_some(), *want);
     }
-    Ok(())
+    for (word, want) in &OCTETS {
+        assert!(rt; is_read(word, *want));
+    }
+    assert_eq!(rt;
+        Octets::read_payload(b"-").map(|octets| octets.len()),
+        Some(0)
+    );
+    assert_eq!(rt;
+        Octets::read_payload(b"5a").map(|octets| octets.len()),
+        Some(1)
+    );
+    assert!(rt; Octets::read_payload(b"--").is_none());
+}
+
+const UUIDS: [(&[u8], bool); 6] = [
+    (b"00112233-4455-6677-8899-aabbccddeeff", true),
+    (b"00112233-4455-6677-8899-AABBCCDDEEFF", false),
+    (b"00112233-4455-6677-8899-aabbccddeef", false),
+    (b"0011223-4455-6677-8899-aabbccddeeff", false),
+    (b"00112233445566778899aabbccddeeff", false),
+    (b"{00112233-4455-6677-8899-aabbccddeeff}", false),
+];
+
+#[test]
+fn reads_uuids(rt: HostRuntime) {
+    let octets = *b"\x00\x11\x22\x33\x44\x55\x66\x77\x88\x99\xaa\xbb\xcc\xdd\xee\xff";
+    for (word, want) in &UUIDS {
+        assert_eq!(rt; uuid(word) == Some(octets), *want);
+    }
+}
+
+// How many items lists have, where the words are lists of at most three.
+const LISTS: [(&[u8], Option<usize>); 7] = [
+    (b"0", Some(1)),
+    (b"7,4294967295,7", Some(3)),
+    (b"1,2,3,4", None),
+    (b"1,,2", None),
+    (b"1,", None),
+    (b"4294967296", None),
+    (b"", None),
+];
+
+#[test]
+fn reads_lists(rt: HostRuntime) {
+    for (word, want) in &LISTS {
+        assert_eq!(rt; Datagrams::read(word, 3).map(|list| list.count()), *want);
+    }
+    let Some(mut ssrcs) = Ssrcs::read(b"00000001,ffffffff", 2) else {
+        return;
+    };
+    assert_eq!(rt; ssrcs.next(), Some(1));
+    assert_eq!(rt; ssrcs.next(), Some(4294967295));
+    assert_eq!(rt; ssrcs.next(), None);
+    assert!(rt; Ssrcs::read(b"00000001,ffffffff", 1).is_none());
+    assert!(rt; Ssrcs::read(b"00000001,1", 2).is_none());
+    assert_eq!(rt;
+        Names::read(b"Ann,Bob", 2).map(|list| list.count()),
+        Some(2)
+    );
+    assert!(rt; Names::read(b"Ann,bob", 2).is_none());
+    assert!(rt; Names::read(b"Ann,Bob,Cat", 2).is_none());
 }
 
 #[test]

@@ -1,5 +1,6 @@
 // The words of a line and the items of a list, one after another.
-ghost use Rattle.std.specs.Prelude.{◌≡◌, ◌∷◌, ◌==◌, position};
+ghost use Rattle.std.specs.Prelude.{◌≡◌, ◌∷◌, ◌==◌, length, take, position};
+ghost use Rattle.std.specs.Str.{bytes_eq};
 ghost use Rattle.std.specs.Option.{option_map};
 ghost use Rattle.perc_word.specs.Word.{parts_of, words_of, first_of, option_split};
 ghost use Rattle.perc_word.specs.Left.{parts_left, words_left, items_left, word_taken, item_taken, option_told};
@@ -18,7 +19,15 @@ pub fn next_word(text: Option<&[u8]>) -> Option<(&[u8], Option<&[u8]>)>
     Some(split_word(text?))
 }
 
+// Whether the text begins with the prefix.
+fn begins_with(text: &[u8], prefix: &[u8]) -> bool
+    ensures { result ≡ bytes_eq (take (length prefix.now) text.now) prefix.now }
+{
+    text.starts_with(prefix)
+}
+
 /// What stands behind the prefix in the next word, where it has that prefix, and the text that is left.
+#[tactic(auto, using(crate::proofs::Taking::other_prefix))]
 pub fn next_option<'a>(
     text: Option<&'a [u8]>,
     prefix: &[u8],
@@ -28,6 +37,10 @@ pub fn next_option<'a>(
     let Some(line) = text else {
         return (None, None);
     };
+    // A word that is no such option isn't walked to its end.
+    if !begins_with(line, prefix) {
+        return (None, text);
+    }
     let (word, behind) = split_word(line);
     match word.strip_prefix(prefix) {
         Some(value) => (Some(value), behind),

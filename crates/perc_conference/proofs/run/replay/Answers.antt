@@ -42,4 +42,4 @@ loop-number-preserved g c =
 pub returns-clause-report : goal.returns-clause-report
 returns-clause-report g c =
     let last : c.loop-number.number ≡ 4294967295 = omega arith in
-    on_past (g.I.Source.left c.args.input.now) (g.O.Sink.written c.args.out.now) (g.I.Source.left c.loop-number.input) (g.O.Sink.written c.loop-number.out) (g.I.Source.left c.past_all.new.input) c.loop-number.number c.loop-number.lines c.loop-number.conference c.loop-number.counts c.past_all.result last c.loop-number.invariant.reaches c.past_all.ensures.end
+    on_past (g.I.Source.left c.args.input.now) (g.O.Sink.written c.args.out.now) (g.I.Source.left c.loop-number.input) (g.O.Sink.written c.loop-number.out) (g.I.Source.left c.past_all.new.input) c.loop-number.number c.loop-number.lines c.past_all.new.lines c.loop-number.conference c.loop-number.counts c.past_all.result last c.loop-number.invariant.reaches c.past_all.ensures.end c.past_all.ensures.broken

@@ -1,7 +1,7 @@
 use Rattle.std.proofs.Common.{◌≡◌, Ok, Result, ap, ◌∙◌}
 use Rattle.perc_base.specs.declared.lines.LineRead.{LineRead}
 use Rattle.perc_base.specs.declared.outside.Failed.{Failed}
-use Rattle.perc_conference.proofs.Stepping.{next_goes, next_refused, next_memory, next_long}
+use Rattle.perc_conference.proofs.Stepping.{next_failed, next_goes, next_refused, next_memory, next_long}
 use Rattle.perc_conference.proofs.run.turn_next.Goals as goal
 
 as_ok : {x y : LineRead} → x ≡ y → ◌≡◌ {A = Result LineRead Failed} (Ok x) (Ok y)
@@ -22,3 +22,7 @@ returns-in-Err-Memory-clause-turn g c = λ s mirrors.
 pub returns-in-Ok-Long-clause-turn : goal.returns-in-Ok-Long-clause-turn
 returns-in-Ok-Long-clause-turn g c = λ s mirrors.
     next_long s _ _ _ _ c.next.result c.args.text.now.items c.args.text.now.items c.args.conference.now c.next.follows.holds-at-none (c.in-Ok-Long.is ∙ as_ok c.in-Ok-Long.field-0-is)
+
+pub returns-in-Err-clause-turn : goal.returns-in-Err-clause-turn
+returns-in-Err-clause-turn g c = λ s mirrors.
+    next_failed s _ _ _ _ c.next.result c.in-Err.field-0 c.args.text.now.items c.args.text.now.items c.args.conference.now c.next.follows.holds-at-none c.in-Err.is
