@@ -43,7 +43,7 @@ use Rattle.perc_distributor.specs.Inbound.{Heard, Packet, heard_of, in_set, noth
 use Rattle.perc_distributor.specs.Kept.{Place, holds, kept_of}
 use Rattle.perc_distributor.specs.Rooms.{is_free, staying}
 use Rattle.perc_distributor.specs.Tables.{Differ, IsPlaceOf}
-use Rattle.perc_distributor.specs.Hearing.{AreOrigins, HasHeardAt, HasOpened, HasTaken, Hears, HearsBut, HearsStill, IsAnswer, IsFreeFor, IsHeard, IsNothing, IsPlaceFor, IsSettled, Origin, SameHeard, Takes, TakesFrom, control_from, is_control, is_verified, media_from, opened_from, settled}
+use Rattle.perc_distributor.specs.Hearing.{AreOrigins, HasHeardAt, HasOpened, HasTaken, Hears, HearsBut, HearsStill, IsAnswer, IsFreeFor, IsHeard, IsNothing, IsPlaceFor, IsSettled, IsSomePlain, Origin, SameHeard, Takes, TakesFrom, control_from, is_control, is_verified, media_from, opened_from, settled}
 use Rattle.perc_distributor.proofs.PlaceLaws.{Fills, any_find, any_set_same, differ_new, differ_set, differ_staying, either_some, fills, find_new, find_staying, found_past, found_with, holds_is, holds_other, holds_own, length_staying, none_any, set_twice}
 
 -- ---- a refused datagram isn't one that ends in no block
@@ -536,3 +536,9 @@ pub taken_of_entry : (entries : List Entry) (kept after : List Origin) (from dat
 taken_of_entry entries kept after from datagram rtcp e result p kind found takes = λ heard hears.
     subst (λ (t : Result Packet InboundFault × List Heard). HasTaken t result p after)
     (sym (taken_as entries heard from datagram ∙ λ i. by_kind entries heard (kind i) (found i) datagram)) (takes heard hears)
+
+-- ---- what stands there
+
+pub answer_plain : (step : Result Packet InboundFault) (result : Result (Unit {0}) InboundFault) (p : Plain) → IsAnswer step result p → IsSomePlain result p
+answer_plain (Ok packet) result p is = subst (λ (r : Result (Unit {0}) InboundFault). IsSomePlain r p) (sym is.0) (packet, is.1)
+answer_plain (Err f) result p is = subst (λ (r : Result (Unit {0}) InboundFault). IsSomePlain r p) (sym is) tt

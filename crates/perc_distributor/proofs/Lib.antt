@@ -1,11 +1,13 @@
 mod SealingLaws
 mod StreamsLaws
-mod Sending
+pub mod Sending
 mod Entries
-mod PlaceLaws
+pub mod PlaceLaws
 mod HearingLaws
 mod Copies
 mod TableLaws
-mod SendingOn
+pub mod SendingOn
 mod UnderWay
 pub mod OnTheWay
+pub mod Arriving
+mod Relaying

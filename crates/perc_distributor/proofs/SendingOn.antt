@@ -29,7 +29,7 @@ use Rattle.perc_distributor.proofs.PlaceLaws.{any_set_same, differ_set, found_pa
 
 -- ---- what was sealed for a serial is of that serial
 
-media_serial : (s : Sealing) (e : Entry) (place : ℕ) (change : Change) (h : Header) (inner : List ℕ) (o : Ohb) (field : Field) (at : Result ℕ ForwardFault)
+pub media_serial : (s : Sealing) (e : Entry) (place : ℕ) (change : Change) (h : Header) (inner : List ℕ) (o : Ohb) (field : Field) (at : Result ℕ ForwardFault)
     → (sent_media s e place change h inner o field at).1.serial ≡ s.serial
 media_serial s e place change h inner o field (Ok at) = refl
 media_serial s e place change h inner o field (Err f) = refl
@@ -38,7 +38,7 @@ control_serial : (s : Sealing) (e : Entry) (place : ℕ) (octets : List ℕ) (at
 control_serial s e place octets (Ok at) = refl
 control_serial s e place octets (Err f) = refl
 
-sent_serial : (s : Sealing) (e : Entry) (place : ℕ) (change : Change) (packet : Packet) → (sent_to s e place change packet).1.serial ≡ s.serial
+pub sent_serial : (s : Sealing) (e : Entry) (place : ℕ) (change : Change) (packet : Packet) → (sent_to s e place change packet).1.serial ≡ s.serial
 sent_serial s e place change (Media from h inner o field) = media_serial s e place change h inner o field (media_place s.streams h inner o field change)
 sent_serial s e place change (Control from octets) =
     ap (λ (step : Sent × Sealing). step.1.serial) (control_by s e place octets) ∙ control_serial s e place octets (control_place s.rtcp octets)
@@ -51,19 +51,19 @@ found_serial : (b : Bool) (x : Sealing) (serial : ℕ) (rest : Option Sealing) �
 found_serial true x serial rest is tail = grind (arith, nat_tests)
 found_serial false x serial rest is tail = tail
 
-of_serial : (sealing : List Sealing) (serial : ℕ) → (sealing_of sealing serial).serial ≡ serial
+pub of_serial : (sealing : List Sealing) (serial : ℕ) → (sealing_of sealing serial).serial ≡ serial
 of_serial [] serial = refl
 of_serial (x ∷ sealing) serial = found_serial (nat_eq x.serial serial) x serial (sealing_in sealing serial) refl (of_serial sealing serial)
 
 -- ---- what was sealed, with this in the place of its serial's
 
-with_found : (sealing : List Sealing) (new : Sealing) (t : ℕ) → t ≡ new.serial → sealing_in (with_sealing new sealing) t ≡ Some new
+pub with_found : (sealing : List Sealing) (new : Sealing) (t : ℕ) → t ≡ new.serial → sealing_in (with_sealing new sealing) t ≡ Some new
 with_found sealing new t same = found_with (λ (x : Sealing). x.serial) (λ s. not (s == new.serial)) sealing new t (sym same) (grind (arith, nat_tests))
 
 passes : (new : Sealing) (t : ℕ) → (t ≡ new.serial → ⊥) → not (t == new.serial) ≡ true
 passes new t other = grind (arith, nat_tests)
 
-with_past : (sealing : List Sealing) (new : Sealing) (t : ℕ) → (t ≡ new.serial → ⊥) → sealing_in (with_sealing new sealing) t ≡ sealing_in sealing t
+pub with_past : (sealing : List Sealing) (new : Sealing) (t : ℕ) → (t ≡ new.serial → ⊥) → sealing_in (with_sealing new sealing) t ≡ sealing_in sealing t
 with_past sealing new t other =
     found_past (λ (x : Sealing). x.serial) (λ s. not (s == new.serial)) sealing new t (λ same. other (sym same))
     ∙ ap (λ (b : Bool). cond b (sealing_in sealing t) None) (passes new t other)

@@ -1,5 +1,5 @@
 -- What the code of the opening side holds, and what its parts do: a datagram opened in a copy, at the place of a serial, among all.
-use Rattle.std.specs.Prelude.{◌≡◌, ℕ, ◌+◌, ◌<◌, ◌⊎◌, Bool, true, false, if◌then◌else◌, List, [], ◌∷◌, length, take, drop, Option, Some, None, Result, Ok, Err, slice_index_or}
+use Rattle.std.specs.Prelude.{◌≡◌, ℕ, ◌+◌, ◌<◌, ◌⊎◌, Bool, true, false, if◌then◌else◌, List, [], ◌∷◌, length, take, drop, Option, Some, None, Result, Ok, Err, OnOk, slice_index_or}
 use Rattle.std.specs.List.{list_any}
 use Rattle.perc_kdf.specs.Derivation.{session_keys}
 use Rattle.perc_kdf.specs.declared.Kind.TheVariants.{Srtp, Srtcp}
@@ -35,6 +35,10 @@ Origin = Place Marks
 pub record IsHeard (k : Origin) (h : Heard) : Type 0 where
   pub streams : outer.StandsFor k.streams h.streams
   pub rtcp : WindowStandsFor k.rtcp h.rtcp
+
+-- What is kept stands for something.
+abbrev pub StandsForSome : Origin → Type 0
+StandsForSome k = (h : Heard) × IsHeard k h
 
 -- Where nothing is kept of a serial, nothing came from it.
 abbrev pub SameHeard : Option Origin → Heard → Type 0
@@ -105,6 +109,10 @@ is_verified (Err f) = false
 abbrev pub IsAnswer : Result Packet InboundFault → Result (Unit {0}) InboundFault → Plain → Type 0
 IsAnswer (Err f) result out = result ≡ Err f
 IsAnswer (Ok packet) result out = (result ≡ Ok tt) × IsPlain out packet
+
+-- Where it was opened, some packet stands in `out`.
+abbrev pub IsSomePlain : Result (Unit {0}) InboundFault → Plain → Type 0
+IsSomePlain result out = OnOk result ((packet : Packet) × IsPlain out packet)
 
 pub record HasOpened (step : Result Packet InboundFault × Heard) (result : Result (Unit {0}) InboundFault) (out : Plain) (kept : Origin) : Type 0 where
   pub answer : IsAnswer step.0 result out

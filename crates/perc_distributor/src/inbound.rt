@@ -7,7 +7,7 @@ ghost use Rattle.perc_distributor.specs.Inbound.{in_set};
 ghost use Rattle.perc_distributor.specs.Kept.{holds, kept_of};
 ghost use Rattle.perc_distributor.specs.Rooms.{is_free, staying};
 ghost use Rattle.perc_distributor.specs.Hearing as spec;
-ghost use Rattle.perc_distributor.specs.Hearing.{HasHeardAt, Hears, HearsStill, IsFreeFor, IsPlaceFor, IsSettled, Takes, TakesFrom};
+ghost use Rattle.perc_distributor.specs.Hearing.{HasHeardAt, Hears, HearsStill, IsFreeFor, IsPlaceFor, IsSettled, IsSomePlain, Takes, TakesFrom};
 
 use crate::origin::Origin;
 use crate::{InboundFault, Plain};
@@ -67,6 +67,7 @@ impl Inbound {
         out: &mut Plain,
     ) -> Result<(), InboundFault>
         requires few { length datagram.now ≤ 1500 }
+        ensures plain { IsSomePlain result out.new }
         ensures taken { Takes self.old set.now from.now datagram.now result out.new self.new }
     {
         let Some(rtcp) = is_control(datagram) else {
@@ -90,6 +91,7 @@ impl Inbound {
         requires few { length datagram.now ≤ 1500 }
         requires set { length set.now ≤ 64 }
         requires member { in_set set.now entry.now.serial ≡ true }
+        ensures plain { IsSomePlain result out.new }
         ensures taken { TakesFrom self.old set.now entry.now rtcp datagram.now result out.new self.new }
     {
         let at = self.place_for(entry.serial);

@@ -9,7 +9,7 @@ ghost use Rattle.perc_outer.specs.Datagram.{Opened, reached, streams_after};
 ghost use Rattle.perc_outer.specs.Kept as outer;
 ghost use Rattle.perc_distributor.specs.Inbound.{Heard};
 ghost use Rattle.perc_distributor.specs.Kept.{IsControl, IsMedia, holds};
-ghost use Rattle.perc_distributor.specs.Hearing.{HasOpened, IsAnswer, IsCopyOpened, IsCopyReached, IsHeard, IsNothing, IsOpenedAt, control_of, indices_after, media_of, opened_from};
+ghost use Rattle.perc_distributor.specs.Hearing.{HasOpened, IsAnswer, IsCopyOpened, IsCopyReached, IsHeard, IsNothing, IsOpenedAt, IsSomePlain, control_of, indices_after, media_of, opened_from};
 ghost use Rattle.perc_distributor.specs.Rooms.{is_free, is_staying, staying};
 
 use crate::session::{Session, known_octets};
@@ -38,11 +38,13 @@ pub(crate) struct Origin {
 }
 
 impl Model for Origin {
-    ghost use Rattle.perc_distributor.specs.Hearing.{Origin};
+    ghost use Rattle.perc_distributor.specs.Hearing.{Origin, StandsForSome};
 
     ghost Value = { Origin };
 
     ghost view = { λ s. record { serial = s.serial; streams = s.streams; rtcp = s.rtcp } };
+
+    ghost invariant = { λ s. StandsForSome (record { serial = s.serial; streams = s.streams; rtcp = s.rtcp }) };
 }
 
 impl Origin {
@@ -120,6 +122,7 @@ impl Origin {
     ) -> Result<(), InboundFault>
         requires few { length datagram.now ≤ 1500 }
         ensures opened { (h : Heard) → IsHeard self.old h → HasOpened (opened_from entry.now h rtcp datagram.now) result out.new self.new }
+        ensures plain { IsSomePlain result out.new }
         ensures serial { self.new.serial ≡ self.old.serial }
     {
         self.session.renew(&entry.client);

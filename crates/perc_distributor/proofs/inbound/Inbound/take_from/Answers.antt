@@ -45,8 +45,8 @@ invariant_of-self-else-is_verified c =
     } in
     writes_origins items serial at was now w c.self.invariant
 
-pub returns-then-is_verified : goal.returns-then-is_verified
-returns-then-is_verified c =
+pub returns-then-is_verified-clause-taken : goal.returns-then-is_verified-clause-taken
+returns-then-is_verified-clause-taken c =
     let items : List Origin = c.self.inside.origins.items in
     let serial : ℕ = c.args.entry.now.serial in
     let at : ℕ = c.place_for-at.result in
@@ -62,15 +62,13 @@ returns-then-is_verified c =
       heard = subst (λ (ks : List Origin). HasHeardAt ks serial at) (sym c.self.view_is) c.place_for-at.ensures.heard;
       opened = c.take-taken.ensures.opened;
     } in
-    record {
-      taken = λ heard hears.
-          let still : Hears items heard = subst (λ (ks : List Origin). Hears ks heard) (sym c.self.view_is) (c.place_for-at.ensures.stands heard hears) in
-          taken_verified c.args.set.now items heard c.args.entry.now c.args.rtcp c.args.datagram.now at was now c.take-taken.result c.take-taken.new.out c.settle.new.self o
-          (sym c.is_verified.ensures ∙ c.if-is_verified.true) c.settle.ensures.settled still;
-    }
+    λ heard hears.
+    let still : Hears items heard = subst (λ (ks : List Origin). Hears ks heard) (sym c.self.view_is) (c.place_for-at.ensures.stands heard hears) in
+    taken_verified c.args.set.now items heard c.args.entry.now c.args.rtcp c.args.datagram.now at was now c.take-taken.result c.take-taken.new.out c.settle.new.self o
+    (sym c.is_verified.ensures ∙ c.if-is_verified.true) c.settle.ensures.settled still
 
-pub returns-else-is_verified : goal.returns-else-is_verified
-returns-else-is_verified c =
+pub returns-else-is_verified-clause-taken : goal.returns-else-is_verified-clause-taken
+returns-else-is_verified-clause-taken c =
     let items : List Origin = c.self.inside.origins.items in
     let serial : ℕ = c.args.entry.now.serial in
     let at : ℕ = c.place_for-at.result in
@@ -86,9 +84,7 @@ returns-else-is_verified c =
       heard = subst (λ (ks : List Origin). HasHeardAt ks serial at) (sym c.self.view_is) c.place_for-at.ensures.heard;
       opened = c.take-taken.ensures.opened;
     } in
-    record {
-      taken = λ heard hears.
-          let still : Hears items heard = subst (λ (ks : List Origin). Hears ks heard) (sym c.self.view_is) (c.place_for-at.ensures.stands heard hears) in
-          taken_not c.args.set.now items heard c.args.entry.now c.args.rtcp c.args.datagram.now at was now c.take-taken.result c.take-taken.new.out o
-          (sym c.is_verified.ensures ∙ c.if-is_verified.false) still;
-    }
+    λ heard hears.
+    let still : Hears items heard = subst (λ (ks : List Origin). Hears ks heard) (sym c.self.view_is) (c.place_for-at.ensures.stands heard hears) in
+    taken_not c.args.set.now items heard c.args.entry.now c.args.rtcp c.args.datagram.now at was now c.take-taken.result c.take-taken.new.out o
+    (sym c.is_verified.ensures ∙ c.if-is_verified.false) still
