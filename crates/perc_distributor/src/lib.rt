@@ -11,6 +11,8 @@ mod session;
 mod slot;
 mod streams;
 mod table;
+#[cfg(test)]
+mod tests;
 mod worker;
 
 pub use fault::{ForwardFault, InboundFault};

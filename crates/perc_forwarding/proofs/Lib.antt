@@ -1,0 +1,4 @@
+mod Sharing
+mod Sealing
+mod Running
+mod Owning
