@@ -1,11 +1,12 @@
 -- What is opened, at the place of its serial and among all.
 use Rattle.std.proofs.Common.{◌≡◌, ℕ, zero, suc, ◌+◌, ◌<◌, ◌≤◌, Bool, true, false, cond, not, leb, List, [], ◌∷◌, ◌++◌, length, get_or, set, map, Option, Some, None, is_some, Result, Ok, Err, ◌⊎◌, inl, inr, refl, sym, ap, subst, ◌∙◌, arith}
-use Rattle.std.specs.Prelude.{◌==◌, ◌&&◌, find, nat_eq, IfSome}
+use Rattle.std.specs.Prelude.{◌==◌, ◌&&◌, All, filter, find, nat_eq, IfSome}
 use Rattle.std.specs.List.{list_any, position}
 use Rattle.std.specs.Option.{is_none, option_map_or, unwrap_or}
 use Rattle.std.proofs.lemmas.Bool.{cases_eq, cases_lt, cases_Bool}
 use Rattle.std.proofs.lemmas.Bool.Decides.{nat_tests}
 use Rattle.std.proofs.lemmas.List.{get_or_default, get_or-set_same, length-set}
+use Rattle.std.proofs.lemmas.List.Elements.{All-append, All-cons, All-nil, All-weaker, filter_passes}
 use Rattle.std.proofs.lemmas.List.Quantifiers.{position-Some}
 use Rattle.std.proofs.lemmas.List.Folds.{find_past}
 use Rattle.perc_kdf.specs.Derivation.{KeyAndSalt, session_keys}
@@ -44,6 +45,7 @@ use Rattle.perc_distributor.specs.Kept.{Place, holds, kept_of}
 use Rattle.perc_distributor.specs.Rooms.{is_free, staying}
 use Rattle.perc_distributor.specs.Tables.{Differ, IsPlaceOf}
 use Rattle.perc_distributor.specs.Hearing.{AreOrigins, HasHeardAt, HasOpened, HasTaken, Hears, HearsBut, HearsStill, IsAnswer, IsFreeFor, IsHeard, IsNothing, IsPlaceFor, IsSettled, IsSomePlain, Origin, SameHeard, Takes, TakesFrom, control_from, is_control, is_verified, media_from, opened_from, settled}
+use Rattle.perc_distributor.proofs.Entries.{entry_in}
 use Rattle.perc_distributor.proofs.PlaceLaws.{Fills, any_find, any_set_same, differ_new, differ_set, differ_staying, either_some, fills, find_new, find_staying, found_past, found_with, holds_is, holds_other, holds_own, length_staying, none_any, set_twice}
 
 -- ---- a refused datagram isn't one that ends in no block
@@ -542,3 +544,54 @@ taken_of_entry entries kept after from datagram rtcp e result p kind found takes
 pub answer_plain : (step : Result Packet InboundFault) (result : Result (Unit {0}) InboundFault) (p : Plain) → IsAnswer step result p → IsSomePlain result p
 answer_plain (Ok packet) result p is = subst (λ (r : Result (Unit {0}) InboundFault). IsSomePlain r p) (sym is.0) (packet, is.1)
 answer_plain (Err f) result p is = subst (λ (r : Result (Unit {0}) InboundFault). IsSomePlain r p) (sym is) tt
+
+-- ---- what is kept behind it
+
+kept_not : (b : Bool) (set : List Entry) (heard : List Heard) (h : Heard) → b ≡ false → cond b (with_heard set heard h) heard ≡ heard
+kept_not true set heard h is = absurd (cc)
+kept_not false set heard h is = refl
+
+unchanged_by : (set : List Entry) (heard : List Heard) (kind : Option Bool) (entry : Option Entry) (datagram : List ℕ) → is_verified (by_kind set heard kind entry datagram).0 ≡ false
+    → (by_kind set heard kind entry datagram).1 ≡ heard
+unchanged_by set heard None entry datagram is = refl
+unchanged_by set heard (Some rtcp) None datagram is = refl
+unchanged_by set heard (Some rtcp) (Some e) datagram is =
+    let step = opened_from e (heard_of heard e.serial) rtcp datagram in
+    kept_not (is_verified step.0) set heard step.1 is
+
+-- Where no tag verified, all is as it was.
+pub unchanged : (set : List Entry) (heard : List Heard) (from datagram : List ℕ) → is_verified (taken set heard from datagram).0 ≡ false → (taken set heard from datagram).1 ≡ heard
+unchanged set heard from datagram is =
+    ap (λ (t : Result Packet InboundFault × List Heard). t.1) (taken_as set heard from datagram)
+    ∙ unchanged_by set heard (is_control (kind_of datagram)) (entry_of set from) datagram
+    (ap (λ (t : Result Packet InboundFault × List Heard). is_verified t.0) (sym (taken_as set heard from datagram)) ∙ is)
+
+kept_in : (b : Bool) (set : List Entry) (heard : List Heard) (e : Entry) (h : Heard) → b ≡ true → h.serial ≡ e.serial → in_set set e.serial ≡ true
+    → All (λ x. in_set set x.serial ≡ true) (cond b (with_heard set heard h) heard)
+kept_in false set heard e h is its member = absurd (cc)
+kept_in true set heard e h is its member =
+    let test : Heard → Bool = λ x. in_set set x.serial && not (x.serial == h.serial) in
+    All-append (λ (x : Heard). in_set set x.serial ≡ true) (filter test heard) (h ∷ [])
+    (All-weaker (λ (x : Heard). test x ≡ true) (λ (x : Heard). in_set set x.serial ≡ true) (λ x passed. first_true (in_set set x.serial) (not (x.serial == h.serial)) passed) (filter test heard) (filter_passes test heard))
+    (All-cons (λ (x : Heard). in_set set x.serial ≡ true) h [] (ap (in_set set) its ∙ member) (All-nil (λ (x : Heard). in_set set x.serial ≡ true)))
+  where
+    first_true : (a b : Bool) → (a && b) ≡ true → a ≡ true
+    first_true true b is = refl
+    first_true false b is = absurd (cc)
+
+only_by : (set : List Entry) (heard : List Heard) (from : List ℕ) (kind : Option Bool) (entry : Option Entry) (datagram : List ℕ) → entry_of set from ≡ entry
+    → is_verified (by_kind set heard kind entry datagram).0 ≡ true → All (λ x. in_set set x.serial ≡ true) (by_kind set heard kind entry datagram).1
+only_by set heard from None entry datagram found is = absurd (cc)
+only_by set heard from (Some rtcp) None datagram found is = absurd (cc)
+only_by set heard from (Some rtcp) (Some e) datagram found is =
+    let h = heard_of heard e.serial in
+    let step = opened_from e h rtcp datagram in
+    kept_in (is_verified step.0) set heard e step.1 is (opened_serial e h rtcp datagram ∙ of_serial heard e.serial) (entry_in set from e found)
+
+-- Once one has, only serials of the set are kept.
+pub kept_of_set : (set : List Entry) (heard : List Heard) (from datagram : List ℕ) → is_verified (taken set heard from datagram).0 ≡ true
+    → All (λ x. in_set set x.serial ≡ true) (taken set heard from datagram).1
+kept_of_set set heard from datagram is =
+    subst (λ (t : Result Packet InboundFault × List Heard). All (λ x. in_set set x.serial ≡ true) t.1) (sym (taken_as set heard from datagram))
+    (only_by set heard from (is_control (kind_of datagram)) (entry_of set from) datagram refl
+    (ap (λ (t : Result Packet InboundFault × List Heard). is_verified t.0) (sym (taken_as set heard from datagram)) ∙ is))

@@ -1,6 +1,6 @@
 //! What holds of media packets on their way, for all keys, streams and changes. The functions do nothing: their contracts are the
 //! laws.
-ghost use Rattle.std.specs.Prelude.{◌≡◌, ℕ, List, Option, Ok, None, All};
+ghost use Rattle.std.specs.Prelude.{◌≡◌, ℕ, List, Option, Ok, None, All, true, false};
 ghost use Rattle.perc_kdf.specs.Derivation.{IsMaster, session_keys};
 ghost use Rattle.perc_kdf.specs.declared.Kind.TheVariants.{Srtp};
 ghost use Rattle.perc_rtp.specs.Header.{Header};
@@ -11,9 +11,18 @@ ghost use Rattle.perc_ohb.specs.declared.rewriting.Change.{Change};
 ghost use Rattle.perc_ekt.specs.Field.{Field};
 ghost use Rattle.perc_keyset.specs.declared.Entry.{Entry};
 ghost use Rattle.perc_outer.specs.Datagram.{Opened};
-ghost use Rattle.perc_distributor.specs.Inbound.{Heard, Media, Packet, heard_of, taken};
+ghost use Rattle.perc_distributor.specs.Inbound.{Heard, Media, Packet, heard_of, in_set, taken};
+ghost use Rattle.perc_distributor.specs.Hearing.{is_verified};
 ghost use Rattle.perc_distributor.specs.Forwarding.{Sealing, media_step};
 ghost use Rattle.perc_distributor.specs.Laws.{Awaits, ComesFrom, HasArrived, HasSpelling, IsOnItsWay, IsRelayOf, IsRelayed, IsSent, OpensAsRelayed, datagram_of, sent_datagram};
+
+/// Before a tag has verified nothing changes. Once one has, what is kept is of serials in the set alone.
+pub fn kept_behind()
+    ensures unchanged { (set : List Entry) (heard : List Heard) (from datagram : List ℕ)
+        → is_verified (taken set heard from datagram).0 ≡ false → (taken set heard from datagram).1 ≡ heard }
+    ensures of_set { (set : List Entry) (heard : List Heard) (from datagram : List ℕ)
+        → is_verified (taken set heard from datagram).0 ≡ true → All (λ x. in_set set x.serial ≡ true) (taken set heard from datagram).1 }
+{}
 
 /// What a sender sealed under its client pair is taken as it was: with its header, its inner octets, its block and its field.
 pub fn taken_as_sent()

@@ -18,8 +18,8 @@ use std::alloc::Global;
 use std::marker::Model;
 
 /// A worker of a distributor: of each batch it seals what goes to the entries that it owns, whose serial modulo the number of
-/// workers is its own. It keeps the streams of 64 serials at most, 256 each, and takes all its memory when it is made: some
-/// 2 MiB. Its value is its number, of how many, and what it keeps.
+/// workers is its own. It keeps the streams of 64 serials at most, 256 each, and their RTCP counters. Its value is its number, of
+/// how many, and what it keeps.
 #[derive(Drop)]
 pub struct Worker {
     share: Share,
@@ -45,7 +45,8 @@ impl Model for Worker {
 }
 
 impl Worker {
-    /// Worker `number`, from 0, of so many, which has sealed nothing. No other call takes memory.
+    /// Worker `number`, from 0, of so many, which has sealed nothing. It takes all its memory here, some 700 KiB, and no other call
+    /// takes any: room for 256 outer streams of 40 octets for each of 64 serials, and for their session keys.
     pub fn new(alloc: Global, number: usize, of: usize) -> Result<Worker, Memory>
         requires number { number < of }
         requires few { of ≤ 16 }
