@@ -2,3 +2,4 @@ mod Sharing
 mod Sealing
 mod Running
 mod Owning
+mod Matching

@@ -1,18 +1,22 @@
 -- Calls of a worker over the sets of one history, and what is sealed in them.
-use Rattle.std.specs.Prelude.{◌≡◌, ℕ, ◌+◌, ◌<◌, List, [], ◌∷◌, ◌++◌, filter, All, Option, Result, Ok, Err, slice_index}
+use Rattle.std.specs.Prelude.{◌≡◌, ℕ, ◌+◌, ◌<◌, List, [], ◌∷◌, ◌++◌, filter, All, Option, Some, None, Result, Ok, Err, slice_index}
+use Rattle.std.specs.List.{slice_get}
 use Rattle.perc_kdf.specs.Derivation.{KeyAndSalt, session_keys}
 use Rattle.perc_kdf.specs.declared.Kind.{Kind}
 use Rattle.perc_kdf.specs.declared.Kind.TheVariants.{Srtp, Srtcp}
 use Rattle.perc_rtp.specs.Header.{IsHeader}
 use Rattle.perc_ohb.specs.declared.rewriting.Change.{Change}
-use Rattle.perc_srtp.specs.Sealed.{iv, rtcp_iv, rtcp_ssrc}
+use Rattle.perc_ohb.specs.Rewriting.{block_after}
+use Rattle.perc_srtp.specs.Sealed.{iv, rtcp_iv, rtcp_ssrc, sealed_rtcp}
+use Rattle.perc_double.specs.Double.{relayed}
 use Rattle.perc_keyset.specs.declared.Op.{Op}
 use Rattle.perc_keyset.specs.declared.Entry.{Entry}
 use Rattle.perc_keyset.specs.Set.{fold_ops}
 use Rattle.perc_distributor.specs.declared.fault.ForwardFault.{ForwardFault}
 use Rattle.perc_distributor.specs.Inbound.{Control, Media, Packet, in_set}
-use Rattle.perc_distributor.specs.Forwarding.{Sealing, media_place, media_step, recipients, sealing_of, sent_each, sent_to, with_sealing}
+use Rattle.perc_distributor.specs.Forwarding.{Dropped, Sealed, Sealing, Sent, media_place, media_step, recipients, sealing_of, sent_each, sent_to, with_sealing}
 use Rattle.perc_distributor.specs.Parts.{control_place}
+use Rattle.perc_distributor.specs.Laws.{datagram_of}
 
 -- a call of a worker: what was published since its call before, the batch, the change, and who alone is named
 pub record Call : Type 0 where
@@ -63,6 +67,24 @@ unfoldable pub step_seals : ℕ → ℕ → List Entry → List Packet → Chang
 step_seals number of set [] change only sealing = []
 step_seals number of set (packet ∷ batch) change only sealing =
     seals_from number of set 0 (packet ∷ batch) change only (filter (λ x. in_set set x.serial) sealing)
+
+-- A datagram for an association is a packet of the batch that was sealed so: media with the change in it, and its field behind it.
+abbrev pub IsSealedWith : Change → List ℕ → List ℕ → Option Packet → Seal → Type 0
+IsSealedWith change to octets None u = ⊥
+IsSealedWith change to octets (Some (Media from h inner block field)) u =
+    (u.entry.association ≡ to) × (u.kind ≡ Srtp) × (u.ssrc ≡ h.ssrc)
+    × (octets ≡ datagram_of (session_keys u.entry.server Srtp) u.index (relayed h change) inner (block_after h block change) field)
+IsSealedWith change to octets (Some (Control from plain)) u =
+    (u.entry.association ≡ to) × (u.kind ≡ Srtcp) × (u.ssrc ≡ rtcp_ssrc plain) × (octets ≡ sealed_rtcp (session_keys u.entry.server Srtcp) u.index plain)
+
+-- These are the seals of the outputs that aren't dropped, one after another.
+abbrev pub AreSealedWith : List Packet → Change → List Sent → List Seal → Type 0
+AreSealedWith batch change [] [] = Unit {0}
+AreSealedWith batch change [] (u ∷ seals) = ⊥
+AreSealedWith batch change (Dropped place to fault ∷ outputs) seals = AreSealedWith batch change outputs seals
+AreSealedWith batch change (Sealed place to octets ∷ outputs) [] = ⊥
+AreSealedWith batch change (Sealed place to octets ∷ outputs) (u ∷ seals) =
+    IsSealedWith change to octets (slice_get batch place) u × AreSealedWith batch change outputs seals
 
 -- What a worker seals in calls, each with the set of what is published then.
 abbrev pub call_seals : ℕ → ℕ → List Op → List Sealing → Call → List Seal

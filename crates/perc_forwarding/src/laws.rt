@@ -2,13 +2,14 @@
 //! laws.
 ghost use Rattle.std.specs.Prelude.{◌≡◌, ◌≢◌, ℕ, List, [], Option, true, false, All, AllPairs, Contains};
 ghost use Rattle.perc_ohb.specs.declared.rewriting.Change.{Change};
+ghost use Rattle.perc_keyset.specs.Set.{fold_ops};
 ghost use Rattle.perc_keyset.specs.History.{IsHistory};
 ghost use Rattle.perc_keyset.specs.declared.Entry.{Entry};
 ghost use Rattle.perc_keyset.specs.declared.Op.{Op};
 ghost use Rattle.perc_distributor.specs.Inbound.{Packet};
 ghost use Rattle.perc_distributor.specs.Forwarding.{Sealing, is_owned, media_step, sealing_of};
 ghost use Rattle.perc_forwarding.specs.Shares.{AreOnce, GiveTheSame, outputs_to};
-ghost use Rattle.perc_forwarding.specs.Runs.{AreOver, AreSound, Call, all_seals, nonce_of, published, run_seals};
+ghost use Rattle.perc_forwarding.specs.Runs.{AreOver, AreSealedWith, AreSound, Call, all_seals, nonce_of, published, run_seals, step_seals};
 
 /// However many workers there are, an entry gets from the one that owns it what one worker alone would give it, in the same order,
 /// given the same indices sealed for it before; and the same is kept of it then. From the others it gets nothing.
@@ -19,6 +20,18 @@ pub fn any_number_of_workers()
     ensures others { (number of : ℕ) (set : List Entry) (batch : List Packet) (change : Change) (only : Option (List (List ℕ))) (sealing : List Sealing) (e : Entry)
         → AreOnce set → Contains set e → is_owned number of e ≡ false
         → outputs_to e.association (media_step number of set batch change only sealing).0 ≡ [] }
+{}
+
+/// The set of a history has no association twice, and no serial.
+pub fn each_entry_once()
+    ensures { (ops : List Op) → IsHistory ops → AreOnce (fold_ops ops) }
+{}
+
+/// What a step of a worker seals is what its outputs are, but for those that are dropped: each is its packet of the batch, sealed for
+/// an entry at an index. So the nonces of the outputs are those of the seals.
+pub fn seals_of_outputs()
+    ensures { (number of : ℕ) (set : List Entry) (batch : List Packet) (change : Change) (only : Option (List (List ℕ))) (sealing : List Sealing)
+        → AreSealedWith batch change (media_step number of set batch change only sealing).0 (step_seals number of set batch change only sealing) }
 {}
 
 /// Over all calls of a worker, with the sets of growing beginnings of one history, no two packets are sealed with the same master,
