@@ -1,0 +1,5 @@
+mod Sharing
+mod Sealing
+mod Running
+mod Owning
+mod Matching
