@@ -12,7 +12,15 @@ use Rattle.perc_contexts.specs.Receiving.{latest, retired, spi_answer, still_liv
 use Rattle.perc_sender.specs.Schedule.{take_answer}
 use Rattle.perc_sender.specs.declared.TakeFault.{TakeFault}
 use Rattle.perc_receiver.specs.Table.{Secret, secret_in}
-use Rattle.perc_receiver.specs.Receiver.{Receiver, granted, live_of}
+use Rattle.perc_receiver.specs.declared.refusal.Refusal.{Refusal}
+use Rattle.perc_receiver.specs.declared.refusal.Refusal.TheVariants.{Outer}
+use Rattle.perc_receiver.specs.Receiver.{Accepted, OpenTry, Receiver, granted, judged_open, live_of, reach_of, settled}
+use Rattle.perc_outer.specs.declared.fault.OuterFault.{OuterFault}
+use Rattle.perc_outer.specs.declared.fault.OuterFault.TheVariants.{Ohb}
+use Rattle.perc_ohb.specs.declared.block.OhbFault.{OhbFault}
+use Rattle.perc_outer.specs.Datagram.{Blocked, Opened, Reach, Reached, Refused, original_header}
+use Rattle.perc_incoming.specs.Outcome.{IsReachedAs, decision}
+use Rattle.perc_incoming.proofs.Hearing.{outcome_decided, outcome_refused}
 use Rattle.perc_receiver.proofs.Calling.{granted_live}
 use Rattle.perc_outgoing.specs.Kept as outgoing
 use Rattle.perc_outgoing.specs.Sending.{IsContent, Outgoing, after_take, send_fault}
@@ -25,7 +33,7 @@ use Rattle.perc_incoming.specs.Granting.{IsGranted as IsTaken}
 use Rattle.perc_incoming.specs.Kept as incoming
 use Rattle.perc_endpoint.specs.declared.fault.GrantFault.{GrantFault}
 use Rattle.perc_endpoint.specs.declared.fault.GrantFault.TheVariants.{SpiOld}
-use Rattle.perc_endpoint.specs.Endpoint.{Endpoint, after_grant, departing, departing_rtcp, grant_answer, new_spi, row_added, taken_key, wraps_added}
+use Rattle.perc_endpoint.specs.Endpoint.{Endpoint, after_grant, departing, departing_rtcp, grant_answer, new_spi, reached, received, row_added, settled as settled_as, taken_key, wraps_added}
 use Rattle.perc_endpoint.specs.Kept.{HasSecret, IsAdded, IsDeparture, IsKept, Kept, StandsFor}
 
 -- ---- the latest SPI
@@ -192,3 +200,27 @@ rtcp_departure_stands e plain None (Err f) old new octets Buffer stands is refus
 rtcp_departure_stands e plain (Some fault) (Ok len) old new octets Buffer stands is refused = absurd (cc)
 rtcp_departure_stands e plain (Some fault) (Err f) old new octets Buffer stands is refused =
     subst (λ (k : outgoing.Kept). outgoing.StandsFor k e.sending) (sym refused.1) stands
+
+-- ---- parts of what is received
+
+pub settled_secrets : (r : Receiver) (answer : Result Accepted Refusal) → (settled r answer).secrets ≡ r.secrets
+settled_secrets r (Ok a) = refl
+settled_secrets r (Err e) = refl
+
+pub reached_refused : (e : Endpoint) (datagram : List ℕ) (fault : OuterFault) → reach_of e.receiving datagram ≡ Refused fault
+    → received e datagram ≡ (Err (Outer fault), reached e datagram)
+reached_refused e datagram fault is =
+    let refused : IsReachedAs (reach_of e.receiving datagram) (Err fault) [] = subst (λ (x : Reach). IsReachedAs x (Err fault) []) (sym is) refl in
+    ap (λ (x : Result Accepted Refusal × Receiver). (x.0, record e { receiving = x.1 })) (outcome_refused e.receiving datagram fault [] refused)
+
+pub reached_blocked : (e : Endpoint) (datagram : List ℕ) (ssrc index : ℕ) (fault : OhbFault) → reach_of e.receiving datagram ≡ Blocked ssrc index fault
+    → received e datagram ≡ (Err (Outer (Ohb fault)), reached e datagram)
+reached_blocked e datagram ssrc index fault is =
+    let refused : IsReachedAs (reach_of e.receiving datagram) (Err (Ohb fault)) [] = subst (λ (x : Reach). IsReachedAs x (Err (Ohb fault)) []) (sym is) refl in
+    ap (λ (x : Result Accepted Refusal × Receiver). (x.0, record e { receiving = x.1 })) (outcome_refused e.receiving datagram (Ohb fault) [] refused)
+
+pub reached_decided : (e : Endpoint) (datagram : List ℕ) (o : Opened) (d : Result OpenTry Refusal) → reach_of e.receiving datagram ≡ Reached o
+    → decision e.receiving.secrets e.receiving.contexts o ≡ d
+    → received e datagram ≡ (judged_open (original_header o) d, settled_as (reached e datagram) (judged_open (original_header o) d))
+reached_decided e datagram o d is decided =
+    ap (λ (x : Result Accepted Refusal × Receiver). (x.0, record e { receiving = x.1 })) (outcome_decided e.receiving datagram o d is decided)

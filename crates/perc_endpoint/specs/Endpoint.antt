@@ -12,13 +12,14 @@ use Rattle.perc_contexts.specs.Receiving.{spi_answer}
 use Rattle.perc_contexts.specs.declared.SpiOld.{SpiOld as OldSpi}
 use Rattle.perc_receiver.specs.declared.refusal.Refusal.{Refusal}
 use Rattle.perc_receiver.specs.Table.{Row, Secret, Wrap}
-use Rattle.perc_receiver.specs.Receiver.{Accepted, Receiver, granted, live_of, outcome}
+use Rattle.perc_receiver.specs.Receiver.{Accepted, Receiver, granted, live_of, outcome, reach_of, settled as receiver_settled}
 use Rattle.perc_receiver.specs.Calls as receiver
 use Rattle.perc_outgoing.specs.declared.fault.SendFault.{SendFault}
 use Rattle.perc_outgoing.specs.declared.fault.RtcpSendFault.{RtcpSendFault}
 use Rattle.perc_outgoing.specs.Sending as outgoing
 use Rattle.perc_outgoing.specs.Sending.{Outgoing, after_rtcp, after_send, after_take, next_place, rtcp_send_fault, send_fault, sent_datagram, sent_row, sent_rtcp, sent_wraps}
 use Rattle.perc_incoming.specs.Control.{outcome_rtcp}
+use Rattle.perc_incoming.specs.Outcome.{after_reach}
 use Rattle.perc_endpoint.specs.declared.fault.GrantFault.{GrantFault}
 use Rattle.perc_endpoint.specs.declared.fault.GrantFault.TheVariants.{SpiOld, KeyRepeated, KeyLimit}
 
@@ -106,6 +107,13 @@ rtcp_sent e plain = departing_rtcp e plain (rtcp_send_fault e.sending plain)
 -- the packet that is accepted or the first refusal, and the endpoint behind it
 abbrev pub received : Endpoint → (datagram : List ℕ) → Result Accepted Refusal × Endpoint
 received e datagram = ((outcome e.receiving datagram).0, record e { receiving = (outcome e.receiving datagram).1 })
+
+-- the endpoint once a datagram was opened hop by hop, or refused, and once a packet was accepted, or not
+abbrev pub reached : Endpoint → (datagram : List ℕ) → Endpoint
+reached e datagram = record e { receiving = after_reach e.receiving (reach_of e.receiving datagram) }
+
+abbrev pub settled : Endpoint → Result Accepted Refusal → Endpoint
+settled e answer = record e { receiving = receiver_settled e.receiving answer }
 
 -- the same of an RTCP packet
 abbrev pub rtcp_received : Endpoint → (datagram : List ℕ) → Result (List ℕ) RtcpFault × Endpoint

@@ -1,21 +1,26 @@
 // An endpoint.
-ghost use Rattle.std.specs.Prelude.{◌≡◌, ℕ, ◌^◌, ◌<◌, ◌≤◌, List, All, None, Some, length, IfOk, OnErr, OnOk};
+ghost use Rattle.std.specs.Prelude.{◌≡◌, ℕ, ◌^◌, ◌<◌, ◌≤◌, List, All, None, Some, length, IfErr, IfOk, OnErr, OnOk};
 ghost use Rattle.perc_base.specs.Profile.{key_length};
 ghost use Rattle.perc_ekt.specs.Record.{IsRecord};
 ghost use Rattle.perc_rtp.specs.Media.{content_of};
 ghost use Rattle.perc_receiver.specs.Table.{AreOctets, Secret, secret_in};
 ghost use Rattle.perc_outgoing.specs.Sending.{IsContent};
 ghost use Rattle.perc_incoming.specs.Control.{IsControl};
-ghost use Rattle.perc_incoming.specs.Outcome.{IsAnswered, StaysWhenRefused};
+ghost use Rattle.perc_outer.specs.Datagram.{Opened};
+ghost use Rattle.perc_outer.specs.Kept.{KeepsWhenRefused};
+ghost use Rattle.perc_receiver.specs.Receiver.{OpenTry, reach_of, receiving};
+ghost use Rattle.perc_incoming.specs.Opening.{IsInquiry};
+ghost use Rattle.perc_incoming.specs.Outcome.{IsAnswered, IsReached, IsReachedAs, IsTakenAs, IsTakenIn, IsToldOf, StaysWhenRefused, padding_answer};
 ghost use Rattle.perc_endpoint.specs.Endpoint as spec;
-ghost use Rattle.perc_endpoint.specs.Endpoint.{after_grant, after_rekey, grant_answer, received, rekey_answer, row_added, rtcp_received, rtcp_sent, sent, started, wraps_added};
+ghost use Rattle.perc_endpoint.specs.Endpoint.{after_grant, after_rekey, grant_answer, reached, received, rekey_answer, row_added, rtcp_received, rtcp_sent, sent, settled, started, wraps_added};
 ghost use Rattle.perc_endpoint.specs.Kept.{HasSecret, IsAdded, IsDeparture, IsGranted, IsRtcpDeparture, StandsFor};
 
 use crate::GrantFault;
 use perc_base::{Memory, Profile};
 use perc_ekt::EktKeyRecord;
-use perc_incoming::{Accepted, Incoming};
+use perc_incoming::{Accepted, Decided, Incoming, Inquiry};
 use perc_kdf::Master;
+use perc_outer::{OuterFault, Reached};
 use perc_outgoing::{Outgoing, RtcpSendFault, SendFault, Sent};
 use perc_receiver::Refusal;
 use perc_rtp::Media;
@@ -132,6 +137,53 @@ impl Endpoint {
         ensures profile { self.new.receiving.profile ≡ self.old.receiving.profile }
     {
         self.incoming.receive(datagram)
+    }
+
+    /// Opens a datagram of at most 1500 octets hop by hop: the first of the three parts of `receive`, for who asks about all of a
+    /// datagram's tries. It tells where the datagram's parts stand. The outer index is accepted then, also where the datagram is refused
+    /// for its block; after any other refusal all is as it was.
+    pub fn reach(&mut self, datagram: &mut [u8]) -> Result<Reached, OuterFault>
+        requires few { length datagram.old ≤ 1500 }
+        ensures answer { (e : spec.Endpoint) → StandsFor self.old e → IsReachedAs (reach_of e.receiving datagram.old) result datagram.new }
+        ensures stands { (e : spec.Endpoint) → StandsFor self.old e → StandsFor self.new (reached e datagram.old) }
+        ensures reached { IfOk result (IsReached datagram.new) }
+        ensures refused { KeepsWhenRefused result ((self.new ≡ self.old) × (datagram.new ≡ datagram.old)) }
+        ensures profile { self.new.receiving.profile ≡ self.old.receiving.profile }
+    {
+        self.incoming.reach(datagram)
+    }
+
+    /// Asks the ciphers about a datagram that was opened hop by hop: the second part, which changes nothing. It tells whether the key
+    /// that it carries unwraps, under which keys it opens, and by which try it is taken, or why it is refused; all is looked at but the
+    /// padding. The body by that try stands at the front of `room` then.
+    pub fn ask(&self, datagram: &[u8], reached: &Reached, room: &mut [u8; 1500]) -> Inquiry
+        requires { IsReached datagram.now reached.now }
+        ensures answer { (e : spec.Endpoint) (o : Opened) → StandsFor self.now e → IsToldOf o datagram.now reached.now → IsInquiry e.receiving o result room.new }
+        ensures taken { IfOk result.decision (λ decided. IsTakenIn self.now.receiving datagram.now reached.now decided room.new) }
+    {
+        self.incoming.ask(datagram, reached, room)
+    }
+
+    /// Accepts an opened datagram by the try that was decided on, whose opened body stands at the front of `room`: the third part. The
+    /// payload is lent from the datagram's own octets. Where the body isn't padded right it is refused, and nothing changes.
+    pub fn settle<'b>(
+        &mut self,
+        datagram: &'b mut [u8],
+        reached: &Reached,
+        decided: &Decided,
+        room: &[u8; 1500],
+    ) -> Result<Accepted<'b>, Refusal>
+        requires reached { IsReached datagram.old reached.now }
+        requires taken { IsTakenIn self.old.receiving datagram.old reached.now decided.now room.now }
+        ensures answer { (e : spec.Endpoint) (o : Opened) (t : OpenTry) → StandsFor self.old e → IsToldOf o datagram.old reached.now
+            → IsTakenAs (receiving e.receiving) o.header.ssrc t decided.now room.now → IsAnswered (padding_answer o t) result }
+        ensures stands { (e : spec.Endpoint) (o : Opened) (t : OpenTry) → StandsFor self.old e → IsToldOf o datagram.old reached.now
+            → IsTakenAs (receiving e.receiving) o.header.ssrc t decided.now room.now → StandsFor self.new (settled e (padding_answer o t)) }
+        ensures refused { OnErr result (self.new ≡ self.old) }
+        ensures padding { IfErr result (λ refusal. refusal ≡ Refusal.Padding) }
+        ensures profile { self.new.receiving.profile ≡ self.old.receiving.profile }
+    {
+        self.incoming.settle(datagram, reached, decided, room)
     }
 
     /// Writes an RTCP packet, sealed hop by hop (RFC 7714 section 9), to the front of `out`, and answers its length, 20 octets more

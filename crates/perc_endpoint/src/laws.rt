@@ -1,17 +1,22 @@
 //! What holds of an endpoint over any list of its calls, for every table of what was sent that is right. The functions do nothing:
 //! their contracts are the laws.
-ghost use Rattle.std.specs.Prelude.{◌≡◌, ℕ, List, [], ◌∷◌, AllPairs, false};
+ghost use Rattle.std.specs.Prelude.{◌≡◌, ℕ, List, [], ◌∷◌, AllPairs, Err, Result, false};
 ghost use Rattle.perc_base.specs.declared.profile.Profile.{Profile};
 ghost use Rattle.perc_kdf.specs.Derivation.{KeyAndSalt};
-ghost use Rattle.perc_outer.specs.Datagram.{Opened};
+ghost use Rattle.perc_outer.specs.Datagram.{Blocked, Opened, Reached, Refused, original_header};
 ghost use Rattle.perc_receiver.specs.Table.{Row, Secret, Table};
-ghost use Rattle.perc_receiver.specs.Receiver.{Accepted, ideal, outcome};
+ghost use Rattle.perc_receiver.specs.Receiver.{Accepted, OpenTry, ideal, judged_open, outcome, reach_of};
 ghost use Rattle.perc_receiver.specs.Foreign.{is_foreign};
 ghost use Rattle.perc_receiver.specs.Calls.{AcceptedOnce, IsAcceptedAs, IsConsistent, IsGenuine};
+ghost use Rattle.perc_incoming.specs.Outcome.{decision};
 ghost use Rattle.perc_outgoing.specs.History.{AreOtherSeals};
 ghost use Rattle.perc_outgoing.specs.Sending.{IsSending};
-ghost use Rattle.perc_endpoint.specs.Endpoint.{Endpoint, received, started};
+ghost use Rattle.perc_endpoint.specs.Endpoint.{Endpoint, reached, received, settled, started};
 ghost use Rattle.perc_endpoint.specs.Calls.{AreOfOctets, Call, IsRun, accepted_by, accepts, after_call, after_calls, sealed_by};
+
+use perc_ohb::OhbFault;
+use perc_outer::OuterFault;
+use perc_receiver::Refusal;
 
 /// Whatever an endpoint is called with, where no datagram that it gets is foreign each packet that it accepts was sent, as it was
 /// sent, and none is accepted twice.
@@ -50,4 +55,16 @@ pub fn outcome_is_ideal()
 /// sections 8 and 9).
 pub fn each_nonce_once()
     ensures { (e : Endpoint) (calls : List Call) → IsSending e.sending → AreOfOctets calls → AllPairs AreOtherSeals (sealed_by e calls []) }
+{}
+
+/// What `receive` makes of a datagram is what its three parts make of it: it is refused where it isn't reached, and else it is decided
+/// over, and what was decided is settled.
+pub fn parts_of_receive()
+    ensures refused { (e : Endpoint) (datagram : List ℕ) (fault : OuterFault) → reach_of e.receiving datagram ≡ Refused fault
+        → received e datagram ≡ (Err (Refusal.Outer fault), reached e datagram) }
+    ensures blocked { (e : Endpoint) (datagram : List ℕ) (ssrc index : ℕ) (fault : OhbFault) → reach_of e.receiving datagram ≡ Blocked ssrc index fault
+        → received e datagram ≡ (Err (Refusal.Outer (OuterFault.Ohb fault)), reached e datagram) }
+    ensures decided { (e : Endpoint) (datagram : List ℕ) (o : Opened) (d : Result OpenTry Refusal) → reach_of e.receiving datagram ≡ Reached o
+        → decision e.receiving.secrets e.receiving.contexts o ≡ d
+        → received e datagram ≡ (judged_open (original_header o) d, settled (reached e datagram) (judged_open (original_header o) d)) }
 {}
