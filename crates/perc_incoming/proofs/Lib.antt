@@ -2,5 +2,6 @@ mod Standing
 mod Unwrapping
 mod Deciding
 mod Taking
-mod Parts
-mod Hearing
+pub mod Parts
+pub mod Hearing
+pub mod Inquiring

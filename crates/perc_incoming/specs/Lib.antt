@@ -3,3 +3,4 @@ pub mod Control
 pub mod Granting
 pub mod Asking
 pub mod Outcome
+pub mod Opening

@@ -4,6 +4,8 @@
 
 mod carried;
 mod choosing;
+mod inquiry;
+pub mod laws;
 mod receiving;
 mod records;
 mod settling;
@@ -13,5 +15,6 @@ mod trying;
 
 pub use carried::UnwrappedKey;
 pub use choosing::Decided;
+pub use inquiry::{Inquiry, OpenKey, OpenKeys};
 pub use receiving::Incoming;
 pub use settling::Accepted;

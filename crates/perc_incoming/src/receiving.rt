@@ -12,9 +12,11 @@ ghost use Rattle.perc_receiver.specs.Calls.{started};
 ghost use Rattle.perc_incoming.specs.Kept.{StandsFor};
 ghost use Rattle.perc_incoming.specs.Control.{IsControl, outcome_rtcp};
 ghost use Rattle.perc_incoming.specs.Granting.{IsGranted};
+ghost use Rattle.perc_incoming.specs.Opening.{IsInquiry};
 ghost use Rattle.perc_incoming.specs.Outcome.{IsAnswered, IsDecision, IsInner, IsReached, IsReachedAs, IsTakenAs, IsTakenIn, IsToldOf, StaysWhenRefused, after_reach, decision, padding_answer};
 
 use crate::choosing::{Decided, decide_reached, original_head, told_key};
+use crate::inquiry::{Inquiry, inquire};
 use crate::records::{LIVE_SPIS, keep_record, known_octets, outer_session};
 use crate::settling::{Accepted, key_under, put_payload};
 use perc_base::{Memory, Profile};
@@ -146,6 +148,23 @@ impl Incoming {
         ensures taken { IfOk result (λ decided. IsTakenIn self.now datagram.now reached.now decided room.new) }
     {
         decide_reached(
+            &self.contexts,
+            &self.records,
+            self.profile,
+            datagram,
+            reached,
+            room,
+        )
+    }
+
+    /// Asks the ciphers all about an opened datagram, in place of `decide`, and changes nothing: whether the key that it carries unwraps,
+    /// under which keys it opens, and what `decide` decides. The body by the try that is taken stands at the front of `room` then.
+    pub fn ask(&self, datagram: &[u8], reached: &Reached, room: &mut [u8; 1500]) -> Inquiry
+        requires { IsReached datagram.now reached.now }
+        ensures answer { (r : Receiver) (o : Opened) → StandsFor self.now r → IsToldOf o datagram.now reached.now → IsInquiry r o result room.new }
+        ensures taken { IfOk result.decision (λ decided. IsTakenIn self.now datagram.now reached.now decided room.new) }
+    {
+        inquire(
             &self.contexts,
             &self.records,
             self.profile,

@@ -1,5 +1,5 @@
 // Packets that are accepted.
-ghost use Rattle.std.specs.Prelude.{◌≡◌, ◌+◌, ◌≤◌, ℕ, length};
+ghost use Rattle.std.specs.Prelude.{◌≡◌, ◌+◌, ◌≤◌, ◌⊎◌, ℕ, length};
 ghost use Rattle.perc_contexts.specs.Receiving.{Attempt, Receiving};
 ghost use Rattle.perc_contexts.specs.Kept.{IsCarried, IsTry, StandsFor, told};
 
@@ -38,6 +38,7 @@ pub(super) fn key_under<'a>(
         → IsTry held.contexts ssrc (told carried.entry) attempt.now a → result.0 ≡ a.context.spi }
     ensures key { (held : Receiving) (ssrc : ℕ) (a : Attempt) → StandsFor contexts.now held
         → IsTry held.contexts ssrc (told carried.entry) attempt.now a → result.1.now ≡ a.context.key }
+    ensures length { (length result.1.now ≡ 16) ⊎ (length result.1.now ≡ 32) }
 {
     match (attempt.place, carried) {
         (TryPlace::Held(place), _) => contexts.key_of(place),
