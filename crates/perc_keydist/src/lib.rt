@@ -8,3 +8,6 @@ mod record;
 
 pub use handshake::{ClearHandshake, Handshake, Hello};
 pub use record::ClearRecord;
+
+#[cfg(test)]
+mod tests;

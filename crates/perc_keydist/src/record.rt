@@ -41,7 +41,8 @@ impl ClearRecord {
     /// none: with an octet more or less they aren't.
     #[tactic(auto, unfolding(crate::specs::ClearRecord::record_in))]
     pub fn read(octets: &[u8], profile: Profile) -> Option<ClearRecord>
-        ensures { option_map content_of result ≡ spec.record_in profile octets.now }
+        ensures value { option_map content_of result ≡ spec.record_in profile octets.now }
+        ensures right { IfSome result (λ r. IsWritable (content_of r)) }
     {
         if octets == ALERT.as_slice() {
             return Some(ClearRecord::Leave);
@@ -99,7 +100,8 @@ fn is_kind(kind: u8, octets: &[u8]) -> bool
 
 // What a hello says behind its front.
 fn hello_in(octets: &[u8]) -> Option<ClearRecord>
-    ensures { option_map content_of result ≡ spec.hello_in octets.now }
+    ensures value { option_map content_of result ≡ spec.hello_in octets.now }
+    ensures right { IfSome result (λ r. IsWritable (content_of r)) }
 {
     if octets.len() != 8 {
         return None;
@@ -109,7 +111,8 @@ fn hello_in(octets: &[u8]) -> Option<ClearRecord>
 
 // What a welcome says behind its front.
 fn welcome_in(octets: &[u8], profile: Profile) -> Option<ClearRecord>
-    ensures { option_map content_of result ≡ spec.welcome_in (key_length profile) (profile_number profile) octets.now }
+    ensures value { option_map content_of result ≡ spec.welcome_in (key_length profile) (profile_number profile) octets.now }
+    ensures right { IfSome result (λ r. IsWritable (content_of r)) }
 {
     let len = profile.key_len();
     if octets.len() != 3 * len + 53 || BigEndian::read_u16(&octets[6..]) != profile.number() {
@@ -125,7 +128,8 @@ fn welcome_in(octets: &[u8], profile: Profile) -> Option<ClearRecord>
 
 // What a renewal says behind its front.
 fn renewal_in(octets: &[u8], profile: Profile) -> Option<ClearRecord>
-    ensures { option_map content_of result ≡ spec.renewal_in (key_length profile) octets.now }
+    ensures value { option_map content_of result ≡ spec.renewal_in (key_length profile) octets.now }
+    ensures right { IfSome result (λ r. IsWritable (content_of r)) }
 {
     if octets.len() != profile.key_len() + 27 {
         return None;
