@@ -1,16 +1,13 @@
 -- What a sealed media packet is reached as, and what a media packet is at the end of its way.
-use Rattle.std.proofs.Common.{◌≡◌, ℕ, zero, suc, ◌+◌, ◌<◌, ◌≤◌, Bool, true, false, cond, List, [], ◌∷◌, ◌++◌, length, Option, Some, None, Result, Ok, Err, refl, sym, ap, subst, ◌∙◌, arith}
-use Rattle.std.specs.Prelude.{◌^◌, All, Contains, filter, nat_le, nat_lt}
-use Rattle.std.specs.List.{slice_get}
-use Rattle.std.proofs.lemmas.List.Elements.{All-append, All-nil}
+use Rattle.std.proofs.Common.{◌≡◌, ℕ, ◌+◌, ◌<◌, Bool, true, false, cond, List, length, Option, Some, None, Result, Ok, Err, refl, sym, ap, subst, ◌∙◌, arith}
+use Rattle.std.specs.Prelude.{◌^◌, nat_lt}
 use Rattle.perc_kdf.specs.Derivation.{IsMaster, IsSession, KeyAndSalt, session_keys}
 use Rattle.perc_kdf.specs.declared.Kind.TheVariants.{Srtp, Srtcp}
 use Rattle.perc_kdf.proofs.SessionLaws.{IsSession-session_keys}
-use Rattle.perc_rtp.specs.Header.{Header, IsHeader}
+use Rattle.perc_rtp.specs.Header.{Header}
 use Rattle.perc_rtp.specs.Carried.{kind_of}
 use Rattle.perc_ohb.specs.declared.block.Ohb.{Ohb}
-use Rattle.perc_ohb.specs.declared.block.OhbFault.{OhbFault}
-use Rattle.perc_ohb.specs.Block.{EndsIn, IsOhb}
+use Rattle.perc_ohb.specs.Block.{EndsIn}
 use Rattle.perc_ohb.specs.Reading.{block_of}
 use Rattle.perc_ohb.specs.Rewriting.{IsRewrite, block_after, restored, Rewrite}
 use Rattle.perc_ohb.proofs.ReadingLaws.{block_read}
@@ -32,10 +29,9 @@ use Rattle.perc_outer.proofs.Outer.{IsRead, opened_as_sealed, reached_by_packet,
 use Rattle.perc_distributor.specs.declared.fault.ForwardFault.{ForwardFault}
 use Rattle.perc_distributor.specs.declared.fault.ForwardFault.TheVariants as fault
 use Rattle.perc_distributor.specs.declared.fault.InboundFault.{InboundFault}
-use Rattle.perc_distributor.specs.Inbound.{Control, Heard, Media, Packet, heard_of, taken}
-use Rattle.perc_distributor.specs.Forwarding.{Dropped, Sealed, Sealing, Sent, as_forwarded, media_place, sent_media, sent_to}
-use Rattle.perc_distributor.specs.Hearing.{control_of, is_control, media_of, opened_from, settled}
-use Rattle.perc_distributor.specs.Parts.{control_place}
+use Rattle.perc_distributor.specs.Inbound.{Heard, Media, Packet, heard_of, taken}
+use Rattle.perc_distributor.specs.Forwarding.{Sealed, Sealing, as_forwarded, media_place, sent_media, sent_to}
+use Rattle.perc_distributor.specs.Hearing.{control_of, is_control, media_of}
 use Rattle.perc_distributor.specs.Laws.{HasArrived, HasSpelling, IsOnItsWay, IsRelayed, IsSent, OpensAsRelayed, datagram_of, opened_after, opened_as, sent_datagram}
 use Rattle.perc_distributor.proofs.HearingLaws.{by_kind, taken_as}
 use Rattle.perc_distributor.proofs.OnTheWay.{relayed_reached}

@@ -1,10 +1,10 @@
 -- A datagram that was opened in a copy.
-use Rattle.std.proofs.Common.{◌≡◌, ℕ, ◌+◌, ◌-◌, ◌<◌, ◌≤◌, Bool, true, false, cond, not, List, [], ◌∷◌, ◌++◌, length, take, drop, get_or, Option, Some, None, Result, Ok, Err, refl, sym, ap, subst, ◌∙◌, append_assoc, arith, rules, ◌/◌}
+use Rattle.std.proofs.Common.{◌≡◌, ℕ, ◌+◌, ◌-◌, ◌<◌, ◌≤◌, Bool, true, false, cond, not, List, [], ◌∷◌, ◌++◌, length, take, drop, get_or, None, Result, Ok, Err, refl, sym, ap, subst, ◌∙◌, append_assoc, arith, rules, ◌/◌}
 use Rattle.std.specs.Prelude.{◌==◌, ◌^◌, IsOk, nat_lt}
 use Rattle.std.proofs.lemmas.Bool.Decides.{nat_tests}
 use Rattle.std.proofs.lemmas.List.{drop_at, get_or_append_left, length-append, length-drop, length-take, take-append-le, take-take, take_at}
 use Rattle.perc_kdf.specs.Derivation.{IsSession, KeyAndSalt}
-use Rattle.perc_rtp.specs.Header.{Header, spelling, version}
+use Rattle.perc_rtp.specs.Header.{spelling, version}
 use Rattle.perc_rtp.specs.Carried.{rtcp_head}
 use Rattle.perc_ohb.specs.Block as ohb
 use Rattle.perc_ekt.specs.Field as ekt
@@ -12,20 +12,19 @@ use Rattle.perc_gcm.specs.Gcm.{sealed_text}
 use Rattle.perc_window.specs.Replay.{Marks, freshness}
 use Rattle.perc_window.specs.declared.window.Freshness.TheVariants.{Fresh, Repeated, TooOld}
 use Rattle.perc_srtp.specs.Sealed.{rtcp_aad, rtcp_iv, rtcp_ssrc, rtcp_word, sealed_rtcp}
-use Rattle.perc_srtp.specs.Streams.{end_word, rtcp_opened, rtcp_place}
+use Rattle.perc_srtp.specs.Streams.{end_word, rtcp_opened}
 use Rattle.perc_srtp.specs.declared.rtcp.RtcpFault.{RtcpFault}
 use Rattle.perc_srtp.specs.declared.rtcp.RtcpFault.TheVariants as rtcp
 use Rattle.perc_srtp.proofs.Streaming.{rtcp_opens_as_sealed}
 use Rattle.perc_keyset.specs.declared.Entry.{Entry}
 use Rattle.perc_outer.specs.Streams.{OuterStream}
-use Rattle.perc_outer.specs.Datagram.{Opened, Reach, Reached, reached}
+use Rattle.perc_outer.specs.Datagram.{Opened, Reach, reached}
 use Rattle.perc_outer.specs.Kept.{IsReach, IsTold}
 use Rattle.perc_outer.specs.Reaching.{IsReached}
 use Rattle.perc_outer.specs.declared.reaching.Reached.{Reached as Told}
 use Rattle.perc_outer.proofs.Outer.{is_reached, told_reached}
 use Rattle.perc_distributor.proofs.UnderWay.{take_whole}
 use Rattle.perc_distributor.specs.declared.plain.Plain.{Plain}
-use Rattle.perc_distributor.specs.Inbound.{Packet}
 use Rattle.perc_distributor.specs.Kept.{IsControl, IsMedia}
 use Rattle.perc_distributor.specs.Hearing.{IsAnswer, IsCopyOpened, IsCopyReached, IsOpenedAt, control_of}
 

@@ -1,5 +1,5 @@
 -- What is opened, at the place of its serial and among all.
-use Rattle.std.proofs.Common.{◌≡◌, ℕ, zero, suc, ◌+◌, ◌<◌, ◌≤◌, Bool, true, false, cond, not, leb, List, [], ◌∷◌, ◌++◌, length, get_or, set, map, Option, Some, None, is_some, Result, Ok, Err, ◌⊎◌, inl, inr, refl, sym, ap, subst, ◌∙◌, arith}
+use Rattle.std.proofs.Common.{◌≡◌, ℕ, ◌<◌, ◌≤◌, Bool, true, false, cond, not, leb, List, [], ◌∷◌, ◌++◌, length, get_or, set, map, Option, Some, None, is_some, Result, Ok, Err, inl, inr, refl, sym, ap, subst, ◌∙◌, arith}
 use Rattle.std.specs.Prelude.{◌==◌, ◌&&◌, All, filter, find, nat_eq, IfSome}
 use Rattle.std.specs.List.{list_any, position}
 use Rattle.std.specs.Option.{is_none, option_map_or, unwrap_or}
@@ -11,7 +11,7 @@ use Rattle.std.proofs.lemmas.List.Quantifiers.{position-Some}
 use Rattle.std.proofs.lemmas.List.Folds.{find_past}
 use Rattle.perc_kdf.specs.Derivation.{KeyAndSalt, session_keys}
 use Rattle.perc_kdf.specs.declared.Kind.TheVariants.{Srtp, Srtcp}
-use Rattle.perc_window.specs.Replay.{Marks, StandsFor as WindowStandsFor}
+use Rattle.perc_window.specs.Replay.{StandsFor as WindowStandsFor}
 use Rattle.perc_rtp.specs.Header.{Header}
 use Rattle.perc_rtp.specs.Reading.{packet_of}
 use Rattle.perc_rtp.specs.Carried.{kind_of}
@@ -24,7 +24,6 @@ use Rattle.perc_ohb.specs.declared.block.OhbFault.{OhbFault}
 use Rattle.perc_ekt.specs.Field.{Field, field_of}
 use Rattle.perc_ekt.specs.declared.field.FieldFault.{FieldFault}
 use Rattle.perc_ekt.specs.declared.field.FieldFault.TheVariants as ekt
-use Rattle.perc_srtp.specs.Ends.{Stream}
 use Rattle.perc_srtp.specs.Streams.{rtcp_opened, rx_opened}
 use Rattle.perc_srtp.specs.declared.streams.RxFault.{RxFault}
 use Rattle.perc_srtp.specs.declared.streams.RxFault.TheVariants as rx
@@ -41,7 +40,7 @@ use Rattle.perc_distributor.specs.declared.fault.InboundFault.{InboundFault}
 use Rattle.perc_distributor.specs.declared.fault.InboundFault.TheVariants as fault
 use Rattle.perc_distributor.specs.declared.plain.Plain.{Plain}
 use Rattle.perc_distributor.specs.Inbound.{Heard, Packet, heard_of, in_set, nothing_heard, taken, taken_control, taken_of, taken_reach, with_heard}
-use Rattle.perc_distributor.specs.Kept.{Place, holds, kept_of}
+use Rattle.perc_distributor.specs.Kept.{holds, kept_of}
 use Rattle.perc_distributor.specs.Rooms.{is_free, staying}
 use Rattle.perc_distributor.specs.Tables.{Differ, IsPlaceOf}
 use Rattle.perc_distributor.specs.Hearing.{AreOrigins, HasHeardAt, HasOpened, HasTaken, Hears, HearsBut, HearsStill, IsAnswer, IsFreeFor, IsHeard, IsNothing, IsPlaceFor, IsSettled, IsSomePlain, Origin, SameHeard, Takes, TakesFrom, control_from, is_control, is_verified, media_from, opened_from, settled}

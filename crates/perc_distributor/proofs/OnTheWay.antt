@@ -1,10 +1,8 @@
 -- A sealed media packet with its field is reached.
-use Rattle.std.proofs.Common.{◌≡◌, ℕ, List, ◌++◌, Option, Some, None, Result, Ok, Err, refl, sym, ap, ◌∙◌}
+use Rattle.std.proofs.Common.{◌≡◌, ℕ, List, Option, None, Result, Ok, refl, ap, ◌∙◌}
 use Rattle.perc_kdf.specs.Derivation.{KeyAndSalt, session_keys}
 use Rattle.perc_kdf.specs.declared.Kind.TheVariants.{Srtp}
-use Rattle.perc_rtp.specs.Header.{Header, IsPacket}
-use Rattle.perc_rtp.specs.Carried.{kind_of}
-use Rattle.perc_rtp.specs.declared.carried.Carried.{Carried}
+use Rattle.perc_rtp.specs.Header.{Header}
 use Rattle.perc_ohb.specs.declared.block.Ohb.{Ohb}
 use Rattle.perc_ohb.specs.Rewriting.{IsRewrite, block_after, Rewrite}
 use Rattle.perc_ohb.specs.Block.{EndsIn}
@@ -15,14 +13,13 @@ use Rattle.perc_srtp.specs.Sealed.{sealed_body}
 use Rattle.perc_srtp.proofs.Streaming.{rx_sealed_opens}
 use Rattle.perc_double.specs.Double.{double, opened, relayed}
 use Rattle.perc_double.proofs.RelayLaws.{IsHeader-relayed}
-use Rattle.perc_keyset.specs.Set.{entry_of}
 use Rattle.perc_keyset.specs.declared.Entry.{Entry}
 use Rattle.perc_outer.specs.Streams.{OuterStream, accepted_of}
 use Rattle.perc_outer.specs.Datagram.{Reach, Reached, opened_packet, reached}
 use Rattle.perc_outer.proofs.Standing.{opened_by, refusing}
 use Rattle.perc_outer.proofs.Outer.{IsRead, reached_whole}
 use Rattle.perc_distributor.specs.declared.fault.InboundFault.{InboundFault}
-use Rattle.perc_distributor.specs.Inbound.{Heard, Media, Packet, heard_of, taken, taken_of, taken_reach}
+use Rattle.perc_distributor.specs.Inbound.{Heard, Media, Packet, heard_of, taken, taken_reach}
 use Rattle.perc_distributor.specs.Laws.{Awaits, ComesFrom, HasSpelling, datagram_of, opened_after, opened_as}
 use Rattle.perc_distributor.specs.Parts.{media_datagram}
 

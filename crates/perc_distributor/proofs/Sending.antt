@@ -1,5 +1,5 @@
 -- A packet sealed for an entry, over what is kept of its serial.
-use Rattle.std.proofs.Common.{◌≡◌, ℕ, ◌+◌, ◌^◌, ◌<◌, ◌≤◌, Bool, true, false, cond, List, [], ◌∷◌, ◌++◌, length, take, Result, Ok, Err, refl, sym, ap, subst, ◌∙◌, arith}
+use Rattle.std.proofs.Common.{◌≡◌, ℕ, ◌+◌, ◌^◌, Bool, true, false, cond, List, length, take, Result, Ok, Err, refl, sym, ap, subst, ◌∙◌}
 use Rattle.std.specs.Prelude.{nat_lt, nat_le}
 use Rattle.perc_ohb.specs.Rewriting.{Rewrite}
 use Rattle.perc_kdf.specs.Derivation.{KeyAndSalt, session_keys}
@@ -10,17 +10,16 @@ use Rattle.perc_ekt.specs.Field.{Field}
 use Rattle.perc_srtp.specs.Ends.{Stream}
 use Rattle.perc_srtp.specs.Sealed.{sealed_rtcp}
 use Rattle.perc_keyset.specs.declared.Entry.{Entry}
-use Rattle.perc_outer.specs.Streams.{OuterStream, with_index}
+use Rattle.perc_outer.specs.Streams.{with_index}
 use Rattle.perc_outer.specs.Kept as outer
 use Rattle.perc_distributor.specs.declared.fault.ForwardFault.{ForwardFault}
 use Rattle.perc_distributor.specs.declared.fault.ForwardFault.TheVariants as fault
 use Rattle.perc_distributor.specs.declared.plain.Plain.{Plain}
-use Rattle.perc_distributor.specs.declared.outputs.Output.{Output}
 use Rattle.perc_distributor.specs.declared.outputs.Output.TheVariants as output
 use Rattle.perc_distributor.specs.Inbound.{Packet, Media, Control}
 use Rattle.perc_distributor.specs.Forwarding.{Sealing, Sent, Sealed, Dropped, media_place, sent_control, sent_media, sent_to}
-use Rattle.perc_distributor.specs.Kept.{IsControl, IsMedia, IsPlain, IsSealing, Kept, sent_of}
-use Rattle.perc_distributor.specs.Parts.{HasSent, IsForwarded, SealsControlFor, SealsMediaFor, SendsFor, control_place, media_datagram}
+use Rattle.perc_distributor.specs.Kept.{IsPlain, IsSealing, Kept}
+use Rattle.perc_distributor.specs.Parts.{HasSent, IsForwarded, SealsControlFor, SealsMediaFor, control_place, media_datagram}
 use Rattle.perc_distributor.proofs.StreamsLaws.{forwarded_more}
 
 -- ---- under the entry's keys

@@ -1,6 +1,6 @@
 -- One output for an entry, over the places of serials; the outputs of a packet; those of a batch.
-use Rattle.std.proofs.Common.{◌≡◌, ℕ, zero, suc, ◌+◌, ◌<◌, ◌≤◌, Bool, true, false, cond, not, List, [], ◌∷◌, ◌++◌, length, take, get_or, set, map, Option, Some, None, Result, Ok, Err, inl, inr, refl, sym, ap, subst, ◌∙◌, arith, append_assoc, rules}
-use Rattle.std.specs.Prelude.{◌==◌, ◌&&◌, ◌^◌, find, filter, nat_eq, nat_lt, nat_le}
+use Rattle.std.proofs.Common.{◌≡◌, ℕ, zero, suc, ◌+◌, ◌<◌, Bool, true, false, cond, not, List, [], ◌∷◌, ◌++◌, length, get_or, set, map, Option, Some, None, Result, Ok, Err, inl, inr, refl, sym, ap, subst, ◌∙◌, arith, append_assoc}
+use Rattle.std.specs.Prelude.{◌==◌, ◌&&◌, find, nat_eq}
 use Rattle.std.specs.List.{slice_get}
 use Rattle.std.specs.Option.{option_map_or, unwrap_or}
 use Rattle.std.proofs.lemmas.Bool.{cases_eq}
@@ -8,7 +8,6 @@ use Rattle.std.proofs.lemmas.Bool.Decides.{nat_tests}
 use Rattle.std.proofs.lemmas.List.{map-append, append-nil, length-set}
 use Rattle.std.proofs.lemmas.List.Elements.{filter-append}
 use Rattle.std.proofs.lemmas.List.Folds.{find_past}
-use Rattle.std.proofs.lemmas.Option.{slice_get_within}
 use Rattle.perc_ohb.specs.Rewriting.{Rewrite}
 use Rattle.perc_rtp.specs.Header.{Header}
 use Rattle.perc_ohb.specs.declared.block.Ohb.{Ohb}
@@ -16,14 +15,13 @@ use Rattle.perc_ekt.specs.Field.{Field}
 use Rattle.perc_keyset.specs.Set.{is_of}
 use Rattle.perc_keyset.specs.declared.Entry.{Entry}
 use Rattle.perc_distributor.specs.declared.fault.ForwardFault.{ForwardFault}
-use Rattle.perc_distributor.specs.declared.fault.ForwardFault.TheVariants as fault
 use Rattle.perc_distributor.specs.declared.plain.Plain.{Plain}
 use Rattle.perc_distributor.specs.declared.outputs.Output.{Output}
 use Rattle.perc_distributor.specs.Inbound.{Packet, Media, Control}
-use Rattle.perc_distributor.specs.Forwarding.{Sealing, Sent, is_named, is_owned, source_of, Dropped, media_place, nothing_sealed, recipients, sealing_of, sent_each, sent_from, sent_media, sent_to, with_sealing}
+use Rattle.perc_distributor.specs.Forwarding.{Sealing, Sent, is_named, is_owned, source_of, media_place, nothing_sealed, recipients, sealing_of, sent_each, sent_from, sent_media, sent_to, with_sealing}
 use Rattle.perc_distributor.specs.Kept.{ArePlain, IsPlain, IsSealing, Kept, SameSealing, StandsFor, holds, kept_of, sent_of}
 use Rattle.perc_distributor.specs.Parts.{HasSent, control_place}
-use Rattle.perc_distributor.specs.Tables.{Differ, HasAdded, HasSentOne, IsPlaceOf, IsTable, OnlyOf, StaysOnlyOf}
+use Rattle.perc_distributor.specs.Tables.{HasAdded, HasSentOne, IsPlaceOf, IsTable, OnlyOf}
 use Rattle.perc_distributor.proofs.Sending.{sent_by, control_by}
 use Rattle.perc_distributor.proofs.PlaceLaws.{any_set_same, differ_set, found_past, found_with, holds_is, holds_other}
 

@@ -1,6 +1,6 @@
 -- A media packet sealed in its stream among those of a serial.
-use Rattle.std.proofs.Common.{◌≡◌, ℕ, ◌+◌, ◌<◌, ◌≤◌, Bool, true, false, not, leb, List, [], ◌∷◌, ◌++◌, length, take, Option, Result, Ok, Err, get_or, set, refl, sym, ap, subst, ◌∙◌, arith}
-use Rattle.std.specs.Prelude.{◌&&◌, find}
+use Rattle.std.proofs.Common.{◌≡◌, ℕ, ◌<◌, Bool, true, false, not, leb, List, [], ◌∷◌, length, Option, Result, Ok, Err, get_or, set, sym, ap, subst, ◌∙◌, arith}
+use Rattle.std.specs.Prelude.{◌&&◌}
 use Rattle.std.specs.List.{list_any, insert}
 use Rattle.std.specs.Option.{option_map_or}
 use Rattle.std.proofs.lemmas.Bool.Decides.{nat_tests}
@@ -23,7 +23,7 @@ use Rattle.perc_distributor.specs.declared.fault.ForwardFault.TheVariants as fau
 use Rattle.perc_distributor.specs.declared.plain.Plain.{Plain}
 use Rattle.perc_distributor.specs.Forwarding.{media_place}
 use Rattle.perc_distributor.specs.Kept.{IsMedia, MediaOf}
-use Rattle.perc_distributor.specs.Parts.{IsForwarded, media_datagram, stream_place}
+use Rattle.perc_distributor.specs.Parts.{IsForwarded, stream_place}
 
 -- An opened packet has one header.
 pub one_header : (p : Plain) (from : List ℕ) (h : Header) (inner : List ℕ) (o : Ohb) (field : Field) (m : MediaOf p) → IsMedia p from h inner o field → h ≡ m.header

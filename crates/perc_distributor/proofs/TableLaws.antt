@@ -1,15 +1,13 @@
 -- Places of serials: which is found, what an edit does to that, and that one is free.
-use Rattle.std.proofs.Common.{◌≡◌, ℕ, zero, suc, ◌+◌, ◌-◌, ◌<◌, ◌≤◌, eqb, Bool, true, false, cond, not, List, [], ◌∷◌, ◌++◌, length, get_or, set, map, replicate, Option, Some, None, is_some, inl, inr, refl, sym, ap, subst, ◌∙◌, arith, rules}
-use Rattle.std.specs.Prelude.{◌==◌, find, filter, IfSome, IsSome, nat_eq, nat_lt}
-use Rattle.std.specs.List.{list_any, position, position_or_len, slice_get}
+use Rattle.std.proofs.Common.{◌≡◌, ℕ, zero, suc, ◌+◌, ◌<◌, ◌≤◌, Bool, true, false, cond, List, [], ◌∷◌, ◌++◌, length, get_or, set, map, replicate, Option, Some, None, is_some, inl, inr, refl, sym, ap, subst, ◌∙◌, arith}
+use Rattle.std.specs.Prelude.{◌==◌, find, filter}
+use Rattle.std.specs.List.{list_any, position}
 use Rattle.std.specs.Option.{is_none, option_map_or, unwrap_or}
 use Rattle.std.proofs.lemmas.Bool.{cases_eq, cases_Bool}
 use Rattle.std.proofs.lemmas.Bool.Decides.{nat_tests}
 use Rattle.std.proofs.lemmas.List.{replicate_more, length-set, get_or-set_same}
 use Rattle.std.proofs.lemmas.List.Quantifiers.{position-Some}
-use Rattle.std.proofs.lemmas.Option.{slice_get-get_or, slice_get_past}
-use Rattle.std.proofs.lemmas.List.Folds.{find_at, find-set, find_past, position_or_len-set}
-use Rattle.perc_srtp.specs.Ends.{Stream}
+use Rattle.std.proofs.lemmas.List.Folds.{find_past}
 use Rattle.perc_keyset.specs.declared.Entry.{Entry}
 use Rattle.perc_distributor.specs.Inbound.{in_set}
 use Rattle.perc_distributor.specs.Forwarding.{Sealing, nothing_sealed, sealing_of}

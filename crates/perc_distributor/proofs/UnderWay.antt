@@ -1,5 +1,5 @@
 -- The outputs of a packet and of a batch, entry by entry and packet by packet.
-use Rattle.std.proofs.Common.{◌≡◌, ℕ, zero, suc, ◌+◌, ◌*◌, ◌<◌, ◌≤◌, Bool, true, false, cond, not, List, [], ◌∷◌, ◌++◌, length, take, get_or, map, Option, Some, refl, sym, ap, subst, ◌∙◌, arith}
+use Rattle.std.proofs.Common.{◌≡◌, ℕ, zero, suc, ◌+◌, ◌<◌, ◌≤◌, Bool, true, false, cond, not, List, [], ◌∷◌, ◌++◌, length, take, get_or, map, Option, Some, refl, sym, ap, subst, ◌∙◌, arith}
 use Rattle.std.specs.Prelude.{◌==◌, ◌&&◌, filter}
 use Rattle.std.specs.List.{slice_get}
 use Rattle.std.proofs.lemmas.Bool.Decides.{nat_tests}
@@ -12,7 +12,7 @@ use Rattle.perc_keyset.specs.declared.Entry.{Entry}
 use Rattle.perc_distributor.specs.declared.plain.Plain.{Plain}
 use Rattle.perc_distributor.specs.declared.outputs.Output.{Output}
 use Rattle.perc_distributor.specs.Inbound.{Packet, in_set}
-use Rattle.perc_distributor.specs.Forwarding.{Sealing, Sent, is_named, is_owned, media_step, recipients, sealing_of, sent_each, sent_from, sent_to, source_of}
+use Rattle.perc_distributor.specs.Forwarding.{Sealing, Sent, is_named, is_owned, media_step, recipients, sealing_of, sent_each, sent_from, sent_to}
 use Rattle.perc_distributor.specs.Kept.{ArePlain, HasForwarded, IsPlain, Kept, StandsFor, Working, sent_of}
 use Rattle.perc_distributor.specs.Rooms.{staying}
 use Rattle.perc_distributor.specs.Tables.{Forwards, HasAdded, OnlyOf, SendsBatch, SendsOne, SendsPacket, StaysOnlyOf}

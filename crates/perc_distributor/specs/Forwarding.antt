@@ -2,7 +2,7 @@
 -- to its source, changed and sealed under the entry's server pair (RFC 8723 section 5.2).
 use Rattle.std.specs.Prelude.{ℕ, ◌+◌, ◌%◌, ◌^◌, Bool, true, not, ◌==◌, ◌&&◌, nat_lt, nat_le, if◌then◌else◌, List, [], ◌∷◌, ◌++◌, length, filter, find, Option, Some, None, Result, Ok, Err}
 use Rattle.std.specs.List.{list_any}
-use Rattle.std.specs.Option.{unwrap_or, option_map_or}
+use Rattle.std.specs.Option.{unwrap_or}
 use Rattle.std.specs.Str.{bytes_eq}
 use Rattle.perc_kdf.specs.Derivation.{session_keys}
 use Rattle.perc_kdf.specs.declared.Kind.TheVariants.{Srtp, Srtcp}

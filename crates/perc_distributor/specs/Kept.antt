@@ -1,17 +1,15 @@
 -- What the code holds: opened packets, outputs, and what a worker keeps of serials.
-use Rattle.std.specs.Prelude.{◌≡◌, ℕ, ◌-◌, ◌≤◌, Bool, true, false, ◌==◌, List, [], ◌∷◌, length, map, take, drop, find, Option, Some, None, IsOk}
+use Rattle.std.specs.Prelude.{◌≡◌, ℕ, ◌-◌, ◌≤◌, Bool, true, false, ◌==◌, List, [], ◌∷◌, map, take, drop, find, Option, Some, None, IsOk}
 use Rattle.std.specs.Option.{option_map_or}
-use Rattle.perc_ohb.specs.Rewriting.{Rewrite}
 use Rattle.perc_rtp.specs.Header.{Header}
 use Rattle.perc_rtp.specs.Carried.{rtcp_head}
 use Rattle.perc_ohb.specs.declared.block.Ohb.{Ohb}
 use Rattle.perc_ekt.specs.Field.{Field, spelling}
 use Rattle.perc_srtp.specs.Ends.{Stream}
 use Rattle.perc_double.specs.Double.{IsOpened}
-use Rattle.perc_keyset.specs.declared.Entry.{Entry}
 use Rattle.perc_outer.specs.Kept as outer
 use Rattle.perc_distributor.specs.Inbound.{Packet, Media, Control}
-use Rattle.perc_distributor.specs.Forwarding.{Sealing, Sent, Sealed, Dropped, most_octets, media_step, sealing_of}
+use Rattle.perc_distributor.specs.Forwarding.{Sealing, Sent, Sealed, Dropped, most_octets, sealing_of}
 use Rattle.perc_distributor.specs.declared.plain.Plain.{Plain}
 use Rattle.perc_distributor.specs.declared.outputs.Output.{Output}
 use Rattle.perc_distributor.specs.declared.outputs.Output.TheVariants as output

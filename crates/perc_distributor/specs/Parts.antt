@@ -1,5 +1,5 @@
 -- What the parts of forwarding do: a packet sealed in one stream, in the streams of a serial, and for an entry.
-use Rattle.std.specs.Prelude.{◌≡◌, ℕ, ◌+◌, ◌^◌, ◌≤◌, ◌<◌, nat_lt, nat_le, if◌then◌else◌, List, [], ◌∷◌, ◌++◌, length, take, Result, Ok, Err}
+use Rattle.std.specs.Prelude.{◌≡◌, ℕ, ◌+◌, ◌^◌, nat_lt, nat_le, if◌then◌else◌, List, ◌∷◌, ◌++◌, length, take, Result, Ok, Err}
 use Rattle.perc_kdf.specs.Derivation.{KeyAndSalt, session_keys}
 use Rattle.perc_kdf.specs.declared.Kind.TheVariants.{Srtp, Srtcp}
 use Rattle.perc_rtp.specs.Header.{Header}
@@ -13,13 +13,13 @@ use Rattle.perc_srtp.specs.Streams.{tx_index}
 use Rattle.perc_double.specs.Double.{double, relayed, relayed_length}
 use Rattle.perc_double.specs.declared.relaying.RelayFault.{RelayFault}
 use Rattle.perc_double.specs.declared.relaying.RelayFault.TheVariants as relay
-use Rattle.perc_outer.specs.Streams.{OuterStream, accepted_of, is_full_for, with_index}
+use Rattle.perc_outer.specs.Streams.{OuterStream, with_index}
 use Rattle.perc_outer.specs.Kept as outer
 use Rattle.perc_distributor.specs.declared.fault.ForwardFault.{ForwardFault}
 use Rattle.perc_distributor.specs.declared.fault.ForwardFault.TheVariants as fault
 use Rattle.perc_distributor.specs.declared.plain.Plain.{Plain}
 use Rattle.perc_distributor.specs.declared.outputs.Output.{Output}
-use Rattle.perc_distributor.specs.Inbound.{Packet, Media, Control}
+use Rattle.perc_distributor.specs.Inbound.{Packet}
 use Rattle.perc_distributor.specs.Forwarding.{Sealing, Sent, as_forwarded, media_place, most_octets, sent_to}
 use Rattle.perc_keyset.specs.declared.Entry.{Entry}
 use Rattle.perc_distributor.specs.Kept.{IsControl, IsMedia, IsPlain, IsSealing, Kept, sent_of}

@@ -1,5 +1,5 @@
 -- How much there is in room that is taken once.
-use Rattle.std.specs.Prelude.{◌≡◌, ℕ, ◌≤◌, Bool, false, if◌then◌else◌, List, [], length, All, Option, Some, None}
+use Rattle.std.specs.Prelude.{◌≡◌, ℕ, ◌≤◌, Bool, false, if◌then◌else◌, List, [], length, All, Some, None}
 use Rattle.std.specs.Option.{is_none, option_map_or}
 use Rattle.perc_kdf.specs.Derivation.{IsSession, KeyAndSalt, session_keys}
 use Rattle.perc_kdf.specs.declared.Kind.TheVariants.{Srtp, Srtcp}

@@ -2,7 +2,7 @@
 ghost use Rattle.std.specs.Prelude.{◌≡◌, ◌+◌, ◌<◌, ◌≤◌, IfOk, IfSome, IsTrue, length};
 ghost use Rattle.perc_rtp.specs.Header.{IsExtension};
 ghost use Rattle.perc_rtp.specs.Media.{is_payload_type};
-ghost use Rattle.perc_ohb.specs.Rewriting.{IsExtChange};
+ghost use Rattle.perc_ohb.specs.Rewriting.{IsExtensionSet, extension_set};
 ghost use Rattle.perc_distributor.specs.Inbound.{Packet};
 ghost use Rattle.perc_distributor.specs.Kept.{IsPlain, IsWhole};
 
@@ -417,7 +417,7 @@ fn may_be_set(pt: Option<u8>) -> bool
 
 // Whether an extension may be set.
 fn may_extend(extension: ExtChange<'_>) -> bool
-    ensures { IsTrue result → IsExtChange extension.entry }
+    ensures { IsTrue result → IsExtensionSet (extension_set extension.entry) }
 {
     match extension {
         ExtChange::Set(profile, words) => is_extension(profile, words),

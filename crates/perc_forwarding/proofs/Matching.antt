@@ -1,5 +1,5 @@
 -- The seals of a batch are those of its outputs; and the set of a history has each entry once.
-use Rattle.std.proofs.Common.{◌≡◌, ◌≢◌, ℕ, zero, suc, ◌+◌, ◌<◌, ◌≤◌, List, [], ◌∷◌, ◌++◌, length, get_or, Option, Some, None, Result, Ok, Err, refl, sym, ap, subst, ◌∙◌, arith}
+use Rattle.std.proofs.Common.{◌≡◌, ◌≢◌, ℕ, suc, ◌+◌, List, [], ◌∷◌, ◌++◌, get_or, Option, Some, Result, Ok, Err, refl, sym, ap, subst, ◌∙◌, arith}
 use Rattle.std.specs.Prelude.{All, AllPairs, Contains, filter}
 use Rattle.std.specs.List.{slice_get}
 use Rattle.std.proofs.lemmas.List.Elements.{All-head, All-tail}
@@ -25,7 +25,7 @@ use Rattle.perc_distributor.specs.Parts.{control_place}
 use Rattle.perc_distributor.specs.Laws.{datagram_of}
 use Rattle.perc_distributor.proofs.Sending.{control_by, sent_by}
 use Rattle.perc_forwarding.specs.Runs.{AreSealedWith, IsSealedWith, Seal, seal_of, seals_each, seals_from, seals_to, step_seals}
-use Rattle.perc_forwarding.specs.Shares.{AreApart, AreOnce}
+use Rattle.perc_forwarding.specs.Shares.{AreOnce}
 
 module _ (batch : List Packet) (change : Rewrite) where
   sealed_append : (outputs more : List Sent) (seals further : List Seal) → AreSealedWith batch change outputs seals → AreSealedWith batch change more further

@@ -1,8 +1,7 @@
 -- What each of many workers seals is for entries that it owns, so no two take a nonce.
-use Rattle.std.proofs.Common.{◌≡◌, ◌≢◌, ℕ, zero, suc, ◌+◌, ◌%◌, ◌<◌, ◌≤◌, Bool, true, false, cond, not, List, [], ◌∷◌, ◌++◌, length, get_or, Option, Some, None, Result, Ok, Err, refl, sym, ap, subst, ◌∙◌, append_assoc, arith}
-use Rattle.std.specs.Prelude.{◌==◌, ◌&&◌, All, AllPairs, Contains, filter}
+use Rattle.std.proofs.Common.{◌≡◌, ◌≢◌, ℕ, ◌+◌, ◌%◌, ◌≤◌, Bool, true, false, not, List, [], ◌∷◌, ◌++◌, get_or, Option, Result, Ok, Err, refl, sym, ap, subst, ◌∙◌, append_assoc, arith}
+use Rattle.std.specs.Prelude.{◌&&◌, All, AllPairs, Contains, filter}
 use Rattle.std.proofs.lemmas.Bool.Decides.{nat_tests}
-use Rattle.std.proofs.lemmas.List.{append-nil}
 use Rattle.std.proofs.lemmas.List.Elements.{All-append, All-cons, All-contains_itself, All-filter, All-head, All-nil, All-tail, All-weaker, Contains-append_left, filter_passes}
 use Rattle.std.proofs.lemmas.List.Kept.{AllPairs-cons}
 use Rattle.perc_ohb.specs.Rewriting.{Rewrite}
@@ -18,9 +17,9 @@ use Rattle.perc_keyset.proofs.SetLaws.{adds-append, from_fold}
 use Rattle.perc_keyset.proofs.Lists.{AllPairs-head, AllPairs-tail}
 use Rattle.perc_distributor.specs.declared.fault.ForwardFault.{ForwardFault}
 use Rattle.perc_distributor.specs.Inbound.{Control, Media, Packet, in_set}
-use Rattle.perc_distributor.specs.Forwarding.{Sealing, is_named, is_owned, media_place, media_step, recipients, sealing_of, sent_each, sent_from, sent_to, source_of, with_sealing}
+use Rattle.perc_distributor.specs.Forwarding.{Sealing, is_named, is_owned, media_place, recipients, sealing_of, sent_each, sent_to, source_of, with_sealing}
 use Rattle.perc_distributor.specs.Parts.{control_place}
-use Rattle.perc_forwarding.specs.Runs.{AreOver, Call, Nonce, Seal, all_seals, call_sealing, call_seals, nonce_of, published, run_seals, seal_of, seals_each, seals_from, seals_to, step_seals}
+use Rattle.perc_forwarding.specs.Runs.{AreOver, Call, Nonce, Seal, all_seals, call_sealing, call_seals, published, run_seals, seal_of, seals_each, seals_from, seals_to, step_seals}
 use Rattle.perc_forwarding.proofs.Running.{Differ, one_worker, published_on}
 
 -- ---- for whom packets are sealed

@@ -1,26 +1,23 @@
 -- No nonce is taken twice: by one worker over its calls, and by two workers.
-use Rattle.std.proofs.Common.{◌≡◌, ◌≢◌, ℕ, zero, suc, ◌+◌, ◌%◌, ◌<◌, ◌≤◌, Bool, true, false, cond, not, List, [], ◌∷◌, ◌++◌, length, get_or, map, Option, Some, None, inl, inr, refl, sym, ap, subst, ◌∙◌, append_assoc, arith}
-use Rattle.std.specs.Prelude.{◌==◌, ◌&&◌, All, AllPairs, Contains, filter, find}
+use Rattle.std.proofs.Common.{◌≡◌, ◌≢◌, ℕ, suc, ◌+◌, true, false, not, List, [], ◌∷◌, ◌++◌, map, Option, inl, inr, refl, sym, ap, subst, ◌∙◌, append_assoc, arith}
+use Rattle.std.specs.Prelude.{◌&&◌, All, AllPairs, Contains, filter}
 use Rattle.std.proofs.lemmas.Bool.{cases_eq, cases_Bool}
 use Rattle.std.proofs.lemmas.Bool.Decides.{nat_tests}
 use Rattle.std.proofs.lemmas.List.{append-nil}
-use Rattle.std.proofs.lemmas.List.Elements.{All-append, All-cons, All-contains, All-contains_itself, All-filter, All-head, All-nil, All-push, All-tail, All-weaker, filter_passes}
-use Rattle.std.proofs.lemmas.List.Kept.{AllPairs-cons}
+use Rattle.std.proofs.lemmas.List.Elements.{All-contains_itself, All-filter, All-head, All-nil, All-push, All-tail, All-weaker}
 use Rattle.std.proofs.lemmas.List.Quantifiers.{all_pairs_push}
 use Rattle.perc_ohb.specs.Rewriting.{Rewrite}
-use Rattle.perc_kdf.specs.Derivation.{KeyAndSalt}
-use Rattle.perc_kdf.specs.declared.Kind.{Kind}
 use Rattle.perc_keyset.specs.Set.{fold_ops, is_of}
-use Rattle.perc_keyset.specs.History.{AreHeldInTurn, IsHistory, adds}
+use Rattle.perc_keyset.specs.History.{AreHeldInTurn, IsHistory}
 use Rattle.perc_keyset.specs.declared.Op.{Op}
 use Rattle.perc_keyset.specs.declared.Entry.{Entry}
-use Rattle.perc_keyset.proofs.HistoryLaws.{never_again, one_by_server, prefixes, same_server}
-use Rattle.perc_keyset.proofs.Lists.{AllPairs-head, AllPairs-tail, Contains-cons_cases, Contains-map}
+use Rattle.perc_keyset.proofs.HistoryLaws.{never_again, prefixes, same_server}
+use Rattle.perc_keyset.proofs.Lists.{Contains-cons_cases}
 use Rattle.perc_distributor.specs.Inbound.{Packet, in_set}
 use Rattle.perc_distributor.specs.Forwarding.{Sealing, is_named, is_owned, media_step, recipients, sealing_of, sent_each, sent_from, sent_to, source_of, with_sealing}
-use Rattle.perc_forwarding.specs.Runs.{AreOver, AreSound, Call, IsSound, Nonce, Seal, call_sealing, call_seals, iv_of, nonce_of, published, run_seals, seals_each, seals_from, seals_to, step_seals}
+use Rattle.perc_forwarding.specs.Runs.{AreSound, Call, IsSound, Nonce, Seal, call_sealing, call_seals, nonce_of, published, run_seals, seals_each, seals_from, seals_to, step_seals}
 use Rattle.perc_forwarding.proofs.Sharing.{kept_in, kept_past, kept_with, member_in, step_serial}
-use Rattle.perc_forwarding.proofs.Sealing.{AreOne, InRange, IsRecorded, KeepsAll, OneSeal, Seals, clash, to_seals}
+use Rattle.perc_forwarding.proofs.Sealing.{AreOne, InRange, IsRecorded, KeepsAll, OneSeal, clash, to_seals}
 
 -- ---- what is known of the seals so far
 

@@ -1,12 +1,11 @@
 -- What is sealed of a packet for an entry is new, and is kept then.
-use Rattle.std.proofs.Common.{◌≡◌, ◌≢◌, ℕ, zero, suc, ◌+◌, ◌*◌, ◌<◌, ◌≤◌, Bool, true, false, cond, List, [], ◌∷◌, ◌++◌, length, drop, get_or, Option, Some, None, Result, Ok, Err, inl, inr, refl, sym, ap, subst, ◌∙◌, arith}
+use Rattle.std.proofs.Common.{◌≡◌, ℕ, ◌+◌, ◌<◌, Bool, true, false, cond, List, [], ◌∷◌, length, drop, get_or, Result, Ok, Err, inl, inr, refl, sym, ap, subst, ◌∙◌, arith}
 use Rattle.std.specs.Prelude.{◌==◌, ◌^◌, ◌||◌, nat_le, nat_lt}
-use Rattle.std.specs.List.{list_any}
 use Rattle.std.proofs.lemmas.Bool.{cases_eq}
 use Rattle.std.proofs.lemmas.Bool.Decides.{nat_tests}
 use Rattle.std.proofs.lemmas.List.{get_or-drop}
 use Rattle.perc_ohb.specs.Rewriting.{Rewrite}
-use Rattle.perc_kdf.specs.Derivation.{KeyAndSalt, session_keys}
+use Rattle.perc_kdf.specs.Derivation.{session_keys}
 use Rattle.perc_kdf.specs.declared.Kind.{Kind}
 use Rattle.perc_kdf.specs.declared.Kind.TheVariants.{Srtp, Srtcp}
 use Rattle.perc_window.specs.Replay.{has}
@@ -17,7 +16,7 @@ use Rattle.perc_srtp.specs.Sealed.{iv, rtcp_iv, rtcp_ssrc}
 use Rattle.perc_srtp.proofs.PacketLaws.{iv_injective, rtcp_iv_injective, tx_once}
 use Rattle.perc_double.specs.Double.{relayed}
 use Rattle.perc_keyset.specs.declared.Entry.{Entry}
-use Rattle.perc_outer.specs.Streams.{OuterStream, accepted_of, with_index}
+use Rattle.perc_outer.specs.Streams.{accepted_of, with_index}
 use Rattle.perc_outer.proofs.Outer.{accepted_past, accepted_with}
 use Rattle.perc_distributor.specs.declared.fault.ForwardFault.{ForwardFault}
 use Rattle.perc_distributor.specs.declared.fault.ForwardFault.TheVariants as fault

@@ -1,12 +1,10 @@
 -- What a batch gives to one entry of a set.
-use Rattle.std.proofs.Common.{◌≡◌, ◌≢◌, ℕ, zero, suc, ◌+◌, ◌%◌, ◌<◌, ◌≤◌, Bool, true, false, cond, not, List, [], ◌∷◌, ◌++◌, length, get_or, Option, Some, None, Result, Ok, Err, inl, inr, refl, sym, ap, subst, ◌∙◌, arith}
-use Rattle.std.specs.Prelude.{◌==◌, ◌&&◌, All, AllPairs, Contains, filter, find}
+use Rattle.std.proofs.Common.{◌≡◌, ◌≢◌, ℕ, ◌+◌, ◌%◌, Bool, true, false, cond, not, List, [], ◌∷◌, ◌++◌, Option, None, Result, Ok, Err, inl, inr, refl, sym, ap, subst, ◌∙◌, arith}
+use Rattle.std.specs.Prelude.{◌==◌, ◌&&◌, All, Contains, filter, find}
 use Rattle.std.specs.Str.{bytes_eq}
 use Rattle.std.specs.Option.{unwrap_or}
 use Rattle.std.proofs.lemmas.Bool.Decides.{nat_tests}
-use Rattle.std.proofs.lemmas.List.{append-nil}
-use Rattle.std.proofs.lemmas.List.Elements.{All-contains, All-cons, All-filter, All-head, All-nil, All-tail, All-weaker, filter-append}
-use Rattle.std.proofs.lemmas.List.Folds.{list_any_at}
+use Rattle.std.proofs.lemmas.List.Elements.{All-contains, All-filter, All-head, All-tail, All-weaker, filter-append}
 use Rattle.std.proofs.lemmas.Slice.Eq.{bytes_eq-Decides}
 use Rattle.perc_ohb.specs.Rewriting.{Rewrite}
 use Rattle.perc_ohb.specs.declared.block.Ohb.{Ohb}
@@ -17,7 +15,7 @@ use Rattle.perc_keyset.specs.declared.Entry.{Entry}
 use Rattle.perc_keyset.proofs.Lists.{Contains-cons_cases}
 use Rattle.perc_distributor.specs.declared.fault.ForwardFault.{ForwardFault}
 use Rattle.perc_distributor.specs.Inbound.{Control, Media, Packet, in_set}
-use Rattle.perc_distributor.specs.Forwarding.{Dropped, Sealed, Sealing, Sent, is_named, is_owned, media_place, media_step, nothing_sealed, recipients, sealing_of, sent_each, sent_from, sent_media, sent_to, source_of, with_sealing}
+use Rattle.perc_distributor.specs.Forwarding.{Sealing, Sent, is_named, is_owned, media_place, media_step, nothing_sealed, recipients, sealing_of, sent_each, sent_from, sent_media, sent_to, source_of, with_sealing}
 use Rattle.perc_distributor.specs.Parts.{control_place}
 use Rattle.perc_distributor.proofs.PlaceLaws.{find_filter}
 use Rattle.perc_distributor.proofs.Sending.{control_by, sent_by}

@@ -1,4 +1,4 @@
-use Rattle.std.proofs.Common.{◌≡◌, ℕ, List, sym, subst, ◌∙◌}
+use Rattle.std.proofs.Common.{ℕ, List, sym, subst, ◌∙◌}
 use Rattle.perc_distributor.specs.Hearing.{HasHeardAt, Hears, IsPlaceFor, Origin}
 use Rattle.perc_distributor.proofs.HearingLaws.{Opens, Writes, taken_not, taken_verified, writes_origins, writes_place}
 use Rattle.perc_distributor.proofs.inbound.Inbound.take_from.Goals as goal

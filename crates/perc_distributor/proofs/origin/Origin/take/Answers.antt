@@ -1,4 +1,4 @@
-use Rattle.std.proofs.Common.{◌≡◌, ℕ, List, None, ap, subst, ◌∙◌}
+use Rattle.std.proofs.Common.{None}
 use Rattle.perc_srtp.specs.Streams.{rtcp_opened}
 use Rattle.perc_outer.specs.Datagram.{reached, streams_after}
 use Rattle.perc_distributor.specs.Hearing.{control_of, indices_after, media_of}

@@ -1,0 +1,16 @@
+pub mod Lookups
+pub mod Said
+pub mod Secrets
+pub mod Sends
+pub mod Turns
+pub mod Hearing
+pub mod Facts
+pub mod Sent
+pub mod Accepted
+pub mod Quiet
+pub mod Lines
+pub mod Wires
+pub mod Judges
+pub mod Genuine
+pub mod Ends
+pub mod Runs
