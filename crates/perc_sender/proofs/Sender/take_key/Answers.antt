@@ -9,5 +9,5 @@ invariant_of-self c = record {
   in_range = omega arith;
   few = omega arith;
   epoch_is =
-  rw (c.push.ensures.items, epoch_push c.self.inside.keys.items c.new.result, c.new.ensures) (c.in_ok-epoch.ensures.epoch ∙ ap (λ (s : Sending). count_under c.args.spi s.keys) (sym c.self.view_is));
+      rw (c.push.ensures.items, epoch_push c.self.inside.keys.items c.new.result, c.new.ensures) (c.in_ok-epoch.ensures.epoch ∙ ap (λ (s : Sending). count_under c.args.spi s.keys) (sym c.self.view_is));
 }
