@@ -1,10 +1,9 @@
 -- Where a run ends because a delivery is foreign.
-use Rattle.std.proofs.Common.{◌≡◌, ℕ, zero, suc, ◌+◌, ◌≤◌, Bool, true, false, cond, List, [], ◌∷◌, ◌++◌, length, Option, Some, None, refl, sym, ap, ◌∙◌, subst, arith}
+use Rattle.std.proofs.Common.{◌≡◌, ℕ, ◌+◌, ◌≤◌, Bool, true, false, cond, List, [], ◌∷◌, length, Option, Some, None, refl, sym, ap, ◌∙◌, subst}
 use Rattle.std.specs.List.{slice_get}
 use Rattle.std.specs.Option.{option_map_or}
 use Rattle.std.specs.Prelude.{◌≢◌}
 use Rattle.std.proofs.lemmas.List.Elements.{All-contains}
-use Rattle.std.proofs.lemmas.Option.{same_Some}
 use Rattle.perc_base.specs.Lines.{longest}
 use Rattle.perc_base.specs.declared.profile.Profile.{Profile}
 use Rattle.perc_rtp.specs.Carried.{kind_of}
@@ -14,15 +13,15 @@ use Rattle.perc_receiver.specs.Table.{Secret, secret_of}
 use Rattle.perc_receiver.specs.Foreign.{is_foreign}
 use Rattle.perc_script_line.specs.Script.{Deliver, Script, script_of}
 use Rattle.perc_script_line.specs.declared.reason.Reason.TheVariants.{Datagram as NoDatagram, Name}
-use Rattle.perc_run.specs.State.{Datagram, Member, State, Turn, Halts, Refused, datagram_at, last_line, member_named}
+use Rattle.perc_run.specs.State.{Datagram, Member, State, Halts, Refused, datagram_at, last_line, member_named}
 use Rattle.perc_run.specs.Delivering.{answer_line, by_cipher, deliver_turn, delivered, heard_turn}
 use Rattle.perc_run.specs.Turn.{turn, turn_under}
-use Rattle.perc_run.specs.Report.{End, Foreign, Run}
+use Rattle.perc_run.specs.Report.{Foreign, Run}
 use Rattle.perc_headline.specs.Headline.{DeliversForeign, DeliversRtp, Turns}
 use Rattle.perc_headline.specs.Sound.{IsMember, KeysFit, core_of}
 use Rattle.perc_headline.proofs.Lookups.{IsFound, found_by_name}
 use Rattle.perc_headline.proofs.Facts.{Facts}
-use Rattle.perc_headline.proofs.Genuine.{deliver_is, heard_or_halts}
+use Rattle.perc_headline.proofs.Genuine.{deliver_is}
 
 -- ---- a foreign delivery halts
 
@@ -64,7 +63,8 @@ same_name a b e = cc
 
 halted_rtp : (s : State) (number : ℕ) (name who : List ℕ) (m : Member) (d : Datagram) (foreign : Bool) → DeliversRtp s number name m d → m.name ≡ name
     → is_foreign s.table m.endpoint.receiving d.octets ≡ foreign
-    → cond foreign (Halts m.name) (heard_turn s m (answer_line s.table number m.name (by_cipher s.table m.endpoint.receiving d.octets).0) (by_cipher s.table m.endpoint.receiving d.octets).1) ≡ Halts who
+    → cond foreign (Halts m.name)
+    (heard_turn s m (answer_line s.table number m.name (by_cipher s.table m.endpoint.receiving d.octets).0) (by_cipher s.table m.endpoint.receiving d.octets).1) ≡ Halts who
     → DeliversForeign s (Deliver number name) who
 halted_rtp s number name who m d false is name_is known e = absurd (cc)
 halted_rtp s number name who m d true is name_is known e =

@@ -129,7 +129,8 @@ pub record IsNew (c : Core) (m : Member) : Type 0 where
   pub sound : receiver.IsSound held c.table m.endpoint.receiving []
   pub others : All (λ n. AreOthers n m) c.members
 
-somebody_longer : (P : Member → Type 0) (members : List Member) (m : Member) → IsSomebody members P → IsSomebody (members ++ m ∷ []) P
+-- Somebody stays among more.
+pub somebody_longer : (P : Member → Type 0) (members : List Member) (m : Member) → IsSomebody members P → IsSomebody (members ++ m ∷ []) P
 somebody_longer P members m it = record { member = it.member; there = Contains-append_left members (m ∷ []) it.member it.there; is = it.is }
 
 not_new_row : (c : Core) (m : Member) (row : Row) → All (λ n. AreOthers n m) c.members → IsOfMember c.members row → IsBefore m row

@@ -21,6 +21,7 @@ use Rattle.perc_run.specs.Turn.{turn, turn_under}
 use Rattle.perc_headline.specs.Headline.{AcceptsGenuine, DeliversRtp, TellsRow, Turns}
 use Rattle.perc_headline.specs.Sound.{core_of}
 use Rattle.perc_headline.proofs.Lookups.{IsFound, found_by_name}
+use Rattle.perc_headline.proofs.Known.{known}
 use Rattle.perc_headline.proofs.Turns.{told_is}
 use Rattle.perc_headline.proofs.Hearing.{row_found}
 use Rattle.perc_headline.proofs.Facts.{Facts}
@@ -105,7 +106,7 @@ genuine_accepts turns s next number name lines f goes m d o row delivers genuine
       header = genuine.changed.header;
       inner = genuine.changed.inner;
       fresh = genuine.inside;
-      known = genuine.known;
+      known = known s.secrets s.table m.endpoint.receiving row o.field f.sound.issued.right f.sound.table genuine.known;
     }) in
     let x : Accepted = it.accepted.0 in
     let told : Row = it.accepted.2.0 in

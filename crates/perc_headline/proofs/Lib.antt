@@ -11,6 +11,14 @@ pub mod Quiet
 pub mod Lines
 pub mod Wires
 pub mod Judges
+pub mod Known
 pub mod Genuine
 pub mod Ends
+pub mod Sealing
+pub mod Fitting
+pub mod Clear
+pub mod Joined
+pub mod Forwarded
+pub mod Nonces
+pub mod SealLaws
 pub mod Runs

@@ -95,7 +95,8 @@ ekt_stays turns s profile key salt head said fit f =
 
 -- ---- join and leave
 
-all_others : (name : List ℕ) (ssrc : ℕ) (m : Member) (members : List Member) → m.name ≡ name → m.ssrc ≡ ssrc → list_any (λ n. has_name name n || (n.ssrc == ssrc)) members ≡ false
+-- Nobody else has the name or the SSRC.
+pub all_others : (name : List ℕ) (ssrc : ℕ) (m : Member) (members : List Member) → m.name ≡ name → m.ssrc ≡ ssrc → list_any (λ n. has_name name n || (n.ssrc == ssrc)) members ≡ false
     → All (λ n. AreOthers n m) members
 all_others name ssrc m [] name_is ssrc_is none = All-nil (λ n. AreOthers n m)
 all_others name ssrc m (n ∷ members) name_is ssrc_is none =

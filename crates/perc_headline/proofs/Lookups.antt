@@ -37,6 +37,14 @@ at_place [] k x within is = absurd (omega arith)
 at_place (y ∷ xs) zero x within is = ap Some is
 at_place (y ∷ xs) (suc k) x within is = at_place xs k x (omega arith) is
 
+pub place_of : {A : Type 0} (xs : List A) (k : ℕ) (x : A) → slice_get xs k ≡ Some x → (k < length xs) × (get_or xs k x ≡ x)
+place_of [] k x is = absurd (cc)
+place_of (y ∷ xs) zero x is = let same : y ≡ x = cc in (omega arith, same)
+place_of (y ∷ xs) (suc k) x is = let it = place_of xs k x is in let within = it.0 in (omega arith, it.1)
+
+pub contains_at : {A : Type 0} (xs : List A) (k : ℕ) (x : A) → slice_get xs k ≡ Some x → Contains xs x
+contains_at xs k x is = let it = place_of xs k x is in (k, it.0, it.1)
+
 -- A list of one element has that one.
 pub contains_one : {A : Type 0} (y x : A) → Contains (y ∷ []) x → y ≡ x
 contains_one y x (zero, within, is) = is

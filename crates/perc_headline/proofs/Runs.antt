@@ -1,12 +1,13 @@
 -- The law of a whole run, by one line after another.
 use Rattle.std.proofs.Common.{◌≡◌, ℕ, suc, ◌+◌, Bool, true, false, cond, not, ◌&&◌, List, [], ◌∷◌, ◌++◌, length, Option, Some, None, refl, sym, ap, ◌∙◌, subst, arith}
-use Rattle.std.specs.Prelude.{nat_lt, ◌==◌, ◌<◌}
+use Rattle.std.specs.Prelude.{nat_lt, ◌==◌, ◌<◌, AllPairs}
 use Rattle.std.proofs.lemmas.Bool.{and_parts, eqb-false, eqb-true, ltb-false, ltb-true}
 use Rattle.std.proofs.lemmas.List.{append-nil, append_assoc}
 use Rattle.std.proofs.lemmas.List.Elements.{All-nil}
 use Rattle.perc_base.specs.Lines.{lines_of, longest}
 use Rattle.perc_base.specs.declared.profile.Profile.{Profile}
 use Rattle.perc_receiver.specs.Table.{IsRightRow, IsRightWrap, IsSecret, Secret}
+use Rattle.perc_outgoing.specs.History.{AreOtherSeals, Seal}
 use Rattle.perc_script_line.specs.Script as script
 use Rattle.perc_script_line.specs.Script.{Deliver, IsScript, Script, fits, key_fits, pair_fits, script_of}
 use Rattle.perc_script_line.specs.declared.reason.Reason.{Reason}
@@ -17,7 +18,8 @@ use Rattle.perc_run.specs.Delivering as delivering
 use Rattle.perc_run.specs.Delivering.{Judge, by_cipher, by_table}
 use Rattle.perc_run.specs.Turn.{first_turn, form_turn, is_later, turn, turn_under}
 use Rattle.perc_run.specs.Report.{Done, End, Foreign, Run, Stopped, after_turn, ended, line_or_nothing, run_behind, run_by, run_from, turn_at}
-use Rattle.perc_headline.specs.Headline.{AcceptsGenuine, DeliversForeign, EndsAtForeign, Headline, IsLineAt, Turns}
+use Rattle.perc_headline.specs.Headline.{AcceptsGenuine, DeliversForeign, EndsAtForeign, Headline, IsLineAt, Turns, state_after, state_of}
+use Rattle.perc_headline.specs.Nonces.{line_seals, run_seals}
 use Rattle.perc_headline.specs.Sound.{core_of}
 use Rattle.perc_headline.proofs.Turns.{GenuineIn, InTurn, after_more, after_these, genuine_more, in_turn_more}
 use Rattle.perc_headline.proofs.Facts.{Facts, facts_profile, quiet_line}
@@ -25,7 +27,10 @@ use Rattle.perc_headline.proofs.Lines.{IsDelivery, StaysSo, ekt_stays, grant_sta
 use Rattle.perc_headline.proofs.Wires.{deliver_stays, forward_stays, send_stays}
 use Rattle.perc_headline.proofs.Judges.{at_same, turn_same}
 use Rattle.perc_headline.proofs.Genuine.{answered, genuine_accepts}
-use Rattle.perc_headline.proofs.Ends.{EndedAt, EndsSo, IsLineFrom, foreign_halts, halted}
+use Rattle.perc_headline.proofs.Fitting.{Fits}
+use Rattle.perc_headline.proofs.Clear.{HasOrigin, IsClear, IsEntryOf, IsKept, IsSealer, wire_of}
+use Rattle.perc_headline.proofs.Nonces.{ClearBehind, turn_clear}
+use Rattle.perc_headline.proofs.Ends.{EndsSo, IsLineFrom, foreign_halts, halted}
 
 -- ---- one line
 
@@ -92,20 +97,36 @@ turn_stays turns s line said f = under_stays turns s line s.profile refl said f
 
 -- ---- all lines
 
+seals_push : (judge : Judge) (s : State) (turns : Turns) (t : Script × List Report)
+    → run_seals judge s (turns ++ t ∷ []) ≡ run_seals judge s turns ++ line_seals (state_after judge s turns) t.0
+seals_push judge s [] t = append-nil (line_seals s t.0)
+seals_push judge s (u ∷ turns) t =
+    let next : State = state_of s (turn judge s u.0) in
+    ap (λ (seals : List Seal). line_seals s u.0 ++ seals) (seals_push judge next turns t)
+    ∙ sym (append_assoc (line_seals s u.0) (run_seals judge next turns) (line_seals (state_after judge next turns) t.0))
+
 -- what was done by a judge
 pub record IsDone (judge : Judge) (turns : Turns) (s : State) : Type 0 where
   pub after : after_these judge turns ≡ s
   pub in_turn : InTurn judge turns
   pub genuine : GenuineIn judge turns
+  pub clear : IsClear (wire_of s) (run_seals judge nobody turns)
 
-done_more : (judge : Judge) (turns : Turns) (s : State) (line : Script) (lines : List Report) (next : State) → turn judge s line ≡ Goes lines next
-    → ((number : ℕ) (name : List ℕ) → line ≡ Deliver number name → AcceptsGenuine s number name lines) → IsDone judge turns s
-    → IsDone judge (turns ++ (line, lines) ∷ []) next
-done_more judge turns s line lines next goes last is = record {
-  after = after_more judge turns s line lines next is.after goes;
-  in_turn = in_turn_more judge turns s line lines next is.after goes is.in_turn;
-  genuine = genuine_more judge turns s line lines is.after is.genuine last;
-}
+-- What holds of a line: each genuine packet that it delivers is accepted, and no two packets were sealed alike behind it.
+record IsLineDone (s : State) (line : Script) (lines : List Report) (next : State) : Type 0 where
+  genuine : (number : ℕ) (name : List ℕ) → line ≡ Deliver number name → AcceptsGenuine s number name lines
+  clear : (done : List Seal) → IsClear (wire_of s) done → IsClear (wire_of next) (done ++ line_seals s line)
+
+done_more : (judge : Judge) (turns : Turns) (s : State) (line : Script) (lines : List Report) (next : State) → turn judge s line ≡ Goes lines next → IsLineDone s line lines next
+    → IsDone judge turns s → IsDone judge (turns ++ (line, lines) ∷ []) next
+done_more judge turns s line lines next goes last is =
+    let seals : List Seal = run_seals judge nobody turns in record {
+      after = after_more judge turns s line lines next is.after goes;
+      in_turn = in_turn_more judge turns s line lines next is.after goes is.in_turn;
+      genuine = genuine_more judge turns s line lines is.after is.genuine last.genuine;
+      clear = subst (IsClear (wire_of next)) (ap (λ (x : State). seals ++ line_seals x line) (sym is.after) ∙ sym (seals_push judge nobody turns (line, lines)))
+          (last.clear seals is.clear);
+    }
 
 -- What holds of the lines and of the state after them. The ciphers and the table do the same.
 pub record Holds (turns : Turns) (s : State) : Type 0 where
@@ -116,8 +137,10 @@ pub record Holds (turns : Turns) (s : State) : Type 0 where
 pub holds_more : (turns : Turns) (s : State) (line : Script) (lines : List Report) (next : State) → IsScript line → turn by_cipher s line ≡ Goes lines next → Holds turns s
     → Holds (turns ++ (line, lines) ∷ []) next
 holds_more turns s line lines next said goes h =
-    let last = λ (number : ℕ) (name : List ℕ) (is : line ≡ Deliver number name).
-    genuine_accepts turns s next number name lines h.facts (ap (turn by_cipher s) (sym is) ∙ goes) in record {
+    let last : IsLineDone s line lines next = record {
+      genuine = λ number name is. genuine_accepts turns s next number name lines h.facts (ap (turn by_cipher s) (sym is) ∙ goes);
+      clear = λ done clear. subst (λ (t : Turn). ClearBehind (done ++ line_seals s line) t) goes (turn_clear turns s line done said h.facts clear);
+    } in record {
       by_cipher = done_more by_cipher turns s line lines next goes last h.by_cipher;
       by_table = done_more by_table turns s line lines next (sym (turn_same turns s line h.facts) ∙ goes) last h.by_table;
       facts = subst (λ (t : Turn). StaysSo turns line t) goes (turn_stays turns s line said h.facts);
@@ -128,6 +151,15 @@ nobody_done judge = record {
   after = refl;
   in_turn = λ k line lines at. absurd (grind arith);
   genuine = λ k number name lines at. absurd (grind arith);
+  clear = record {
+    pairs = record { others = λ i j d below within. absurd (omega arith); own = All-nil _ };
+    sealers = All-nil (IsSealer []);
+    entries = All-nil (IsEntryOf []);
+    origins = All-nil (HasOrigin []);
+    kept = All-nil (IsKept [] [] []);
+    fits = All-nil Fits;
+    apart = λ i j d below within. absurd (omega arith);
+  };
 }
 
 holds_nobody : Holds [] nobody
@@ -166,7 +198,7 @@ record HoldsAtEnd (number : ℕ) (lines : List (List ℕ)) (done : Turns) (run o
 
 at_once : (number : ℕ) (lines : List (List ℕ)) (done : Turns) (s : State) (end : End) → Holds done s → EndsSo number lines s (ended end)
     → HoldsAtEnd number lines done (ended end) (ended end)
-at_once number lines done s end h ends = record { final = s; holds = rw (append-nil done) h; same = refl; ends = ends }
+at_once number lines done s end h ends = record { final = s; holds = subst (λ (turns : Turns). Holds turns s) (sym (append-nil done)) h; same = refl; ends = ends }
 
 -- ---- the line at which a run ends
 
@@ -271,6 +303,16 @@ record IsAt (s : State) (number : ℕ) (octets : List ℕ) (said : Option Script
   long_is : nat_lt longest (length octets) ≡ long
   bounds : (line : Script) → said ≡ Some line → IsScript line
 
+-- a line that goes on, before the others
+one_more : (number : ℕ) (octets : List ℕ) (lines : List (List ℕ)) (done : Turns) (line : Script) (told : List Report) (run other : Run)
+    → HoldsAtEnd (number + 1) lines (done ++ (line, told) ∷ []) run other → HoldsAtEnd number (octets ∷ lines) done (after_turn line told run) (after_turn line told other)
+one_more number octets lines done line told run other r = record {
+  final = r.final;
+  holds = subst (λ (turns : Turns). Holds turns r.final) (append_assoc done ((line, told) ∷ []) run.turns) r.holds;
+  same = ap (after_turn line told) r.same;
+  ends = ends_behind number octets lines r.final line told run r.ends;
+}
+
 line_holds : (s : State) (number : ℕ) (octets : List ℕ) (lines : List (List ℕ)) (done : Turns) (said : Option Script) (t : Turn) (last long : Bool) (goes_on goes_too : State → Run)
     → IsAt s number octets said t last long → Holds done s
     → ((next : State) (turns : Turns) → Holds turns next → HoldsAtEnd (number + 1) lines turns (goes_on next) (goes_too next))
@@ -286,12 +328,8 @@ line_holds s number octets lines done (Some line) (Halts name) false false goes_
     (ends_halted number octets lines done s line name at.is at.does at.last_is at.long_is (at.bounds line refl) h.facts)
 line_holds s number octets lines done None (Goes told next) false false goes_on goes_too at h rest = let e = at.does in absurd (cc)
 line_holds s number octets lines done (Some line) (Goes told next) false false goes_on goes_too at h rest =
-    let r = rest next (done ++ (line, told) ∷ []) (holds_more done s line told next (at.bounds line refl) at.does h) in record {
-      final = r.final;
-      holds = rw (append_assoc done ((line, told) ∷ []) (goes_on next).turns) at r.holds;
-      same = ap (after_turn line told) r.same;
-      ends = ends_behind number octets lines r.final line told (goes_on next) r.ends;
-    }
+    one_more number octets lines done line told (goes_on next) (goes_too next)
+    (rest next (done ++ (line, told) ∷ []) (holds_more done s line told next (at.bounds line refl) at.does h))
 
 run_holds : (s : State) (number : ℕ) (lines : List (List ℕ)) (done : Turns) → HasBounds → Holds done s
     → HoldsAtEnd number lines done (run_from by_cipher s number lines) (run_from by_table s number lines)
@@ -381,3 +419,12 @@ ends_by_table bounds octets =
     let r = is_run bounds octets in
     subst (λ (run : Run). EndsAtForeign by_table (lines_of octets) run) (one_run bounds octets)
     (ends_at by_table (lines_of octets) (run_by by_cipher octets) r.final r.holds.by_table r.ends)
+
+-- No two packets of a run are sealed alike, whoever judges.
+pub nonces_by_cipher : HasBounds → (octets : List ℕ) → AllPairs AreOtherSeals (run_seals by_cipher nobody (run_by by_cipher octets).turns)
+nonces_by_cipher bounds octets = let r = is_run bounds octets in r.holds.by_cipher.clear.apart
+
+pub nonces_by_table : HasBounds → (octets : List ℕ) → AllPairs AreOtherSeals (run_seals by_table nobody (run_by by_table octets).turns)
+nonces_by_table bounds octets =
+    let r = is_run bounds octets in
+    subst (λ (run : Run). AllPairs AreOtherSeals (run_seals by_table nobody run.turns)) (one_run bounds octets) r.holds.by_table.clear.apart

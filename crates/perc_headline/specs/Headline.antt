@@ -1,6 +1,6 @@
 -- What a report is worth: each accept line names one earlier send, as it was sent, at most once for each member; and each genuine
 -- packet is accepted.
-use Rattle.std.specs.Prelude.{◌≡◌, ◌≢◌, ℕ, ◌+◌, ◌<◌, ◌≤◌, true, List, [], ◌∷◌, length, Option, Some, None, Result, Ok, slice_get, take, Contains, AllPairs, filter_map}
+use Rattle.std.specs.Prelude.{◌≡◌, ◌≢◌, ℕ, ◌+◌, ◌<◌, ◌≤◌, true, not, ◌||◌, List, [], ◌∷◌, length, Option, Some, None, Ok, slice_get, take, Contains, IsTrue, is_some, AllPairs, filter_map}
 use Rattle.std.specs.List.{flat_map}
 use Rattle.perc_base.specs.Lines.{longest}
 use Rattle.perc_window.specs.Replay.{freshness}
@@ -12,10 +12,12 @@ use Rattle.perc_rtp.specs.Media.{header_of}
 use Rattle.perc_script_line.specs.Script.{Script, Options, Send, Deliver, script_of}
 use Rattle.perc_report_line.specs.Report.{Report, Acceptance, Ekt, Joined, Left, Granted, Denied, Rekeyed, WireUp, WireMade, WireReseal, WireDown, Dropped, RefuseMedia, Accept, Rtcp, Refuse}
 use Rattle.perc_outer.specs.Datagram.{Opened, Reached, original_header}
-use Rattle.perc_receiver.specs.Table.{Row, Table}
-use Rattle.perc_receiver.specs.Receiver.{Accepted, Receiver, ideal, reach_of}
+use Rattle.perc_ekt.specs.Field.{Extension, Field, Full, Short}
+use Rattle.perc_contexts.specs.Receiving.{Context, context_of, is_full, is_live}
+use Rattle.perc_receiver.specs.Table.{Row, Table, Wrap}
+use Rattle.perc_receiver.specs.Receiver.{Accepted, Receiver, ideal, live_of, reach_of}
 use Rattle.perc_receiver.specs.Foreign.{is_foreign}
-use Rattle.perc_receiver.specs.Calls.{IsAlone, IsKeyKnown, IsRow, accepted_under}
+use Rattle.perc_receiver.specs.Calls.{IsAlone, IsRow, IsTried, IsWrapFor, accepted_under}
 use Rattle.perc_run.specs.State.{Datagram, Member, State, Turn, Goes, Refused, Halts, datagram_at, last_line, member_named, nobody}
 use Rattle.perc_run.specs.Sending.{content_of}
 use Rattle.perc_run.specs.Delivering.{Judge}
@@ -109,8 +111,25 @@ pub record IsChangedInThree (table : Table) (o : Opened) (row : Row) : Type 0 wh
 abbrev pub IsInsideWindow : Receiver → Row → Type 0
 IsInsideWindow r row = freshness (accepted_under r.contexts row) row.index ≡ Fresh
 
--- With its key known: a full field carries it, wrapped by its sender, under a live SPI, and its context is held or has room; or the
--- context is among the newest of its sender, and the row's index is the nearest there.
+-- A full field carries the row's key: it is a wrap of the table, of the row's SPI, SSRC and key and the ROC of its index; its SPI is
+-- live; and the context is held, or there is room for it.
+pub record CarriesKey (table : Table) (r : Receiver) (row : Row) (cipher : List ℕ) (spi : ℕ) : Type 0 where
+  pub wrap : Wrap
+  pub there : Contains table.wraps wrap
+  pub octets : wrap.octets ≡ cipher
+  pub spi_is : wrap.spi ≡ spi
+  pub of_row : IsWrapFor row wrap
+  pub live : IsTrue (is_live (live_of r.secrets) spi)
+  pub room : IsTrue (is_some (context_of r.contexts row.spi row.ssrc row.key) || not (is_full r.contexts row.spi row.ssrc))
+
+-- Its key is known: its field carries it; or else its context is among the newest of its sender, and the row's index is the nearest
+-- there.
+abbrev pub IsKeyKnown : Table → Receiver → Row → Field → Type 0
+IsKeyKnown table r row Short = (c : Context) × IsTried r row c
+IsKeyKnown table r row (Extension octets kind) = (c : Context) × IsTried r row c
+IsKeyKnown table r row (Full cipher spi epoch) = CarriesKey table r row cipher spi
+
+-- A datagram is genuine for a member: it is all of this.
 pub record IsGenuine (s : State) (m : Member) (octets : List ℕ) (o : Opened) (row : Row) : Type 0 where
   pub arrives : ArrivesFresh m.endpoint.receiving octets o
   pub changed : IsChangedInThree s.table o row

@@ -1,9 +1,17 @@
 //! The laws of reports. The functions do nothing: their contracts are the laws. Where one rests on another crate's law, it calls that.
-ghost use Rattle.std.specs.Prelude.{◌≡◌, ℕ, List};
+ghost use Rattle.std.specs.Prelude.{◌≡◌, ℕ, List, Option, AllPairs};
 ghost use Rattle.perc_base.specs.Lines.{lines_of};
+ghost use Rattle.perc_rtp.specs.Media.{Content};
+ghost use Rattle.perc_ohb.specs.Rewriting.{Rewrite};
+ghost use Rattle.perc_keyset.specs.declared.Entry.{Entry};
+ghost use Rattle.perc_outgoing.specs.History.{AreOtherSeals};
+ghost use Rattle.perc_distributor.specs.Inbound.{Packet};
+ghost use Rattle.perc_distributor.specs.Forwarding.{Sealing, media_step};
+ghost use Rattle.perc_run.specs.State.{Member, nobody};
 ghost use Rattle.perc_run.specs.Delivering.{by_cipher, by_table};
 ghost use Rattle.perc_run.specs.Report.{run_by};
 ghost use Rattle.perc_headline.specs.Headline.{AreOfLines, EndsAtForeign, Headline};
+ghost use Rattle.perc_headline.specs.Nonces.{AreSealedWith, IsSentSealed, run_seals, step_seals};
 
 use perc_script_line::laws::one_spelling;
 
@@ -36,6 +44,24 @@ pub fn ends_at_foreign()
     // The fields of each line are within their bounds.
     one_spelling();
 }
+
+/// Over the whole run of any script, no two packets are sealed in one layer under one master and kind with one IV (RFC 7714 section 8.1):
+/// neither by members nor by the distributor.
+pub fn each_nonce_once()
+    ensures by_cipher { (octets : List ℕ) → AllPairs AreOtherSeals (run_seals by_cipher nobody (run_by by_cipher octets).turns) }
+    ensures by_table { (octets : List ℕ) → AllPairs AreOtherSeals (run_seals by_table nobody (run_by by_table octets).turns) }
+{
+    // The fields of each line are within their bounds.
+    one_spelling();
+}
+
+/// What is told to be sealed is what was sealed: a send's datagram is sealed twice, with both its seals; and the outputs of a forward that
+/// aren't dropped are sealed with its seals, one after another.
+pub fn seals_of_packets()
+    ensures sent { (m : Member) (content : Content) → IsSentSealed m content }
+    ensures forwarded { (set : List Entry) (batch : List Packet) (change : Rewrite) (only : Option (List (List ℕ))) (sealing : List Sealing)
+        → AreSealedWith (media_step 0 1 set batch change only sealing).0 (step_seals 0 1 set batch change only sealing) }
+{}
 
 /// Each turn is that of the line in its place, and says what the line says.
 pub fn turn_by_turn()
