@@ -82,7 +82,7 @@ type Row = (
 );
 
 // What comes to a distributor of Ann and Bob.
-const OPENED: [Row; 18] = [
+const OPENED: [Row; 20] = [
     (ANN, "", 0, Err(InboundFault::NotMedia)),
     (ANN, "14fefd00", 0, Err(InboundFault::NotMedia)),
     (
@@ -194,6 +194,24 @@ const OPENED: [Row; 18] = [
         "80c900011111111111d2633090986b332435c6ed8d6cc14d80000000",
         0,
         Err(InboundFault::Rtcp(RtcpFault::Repeated)),
+    ),
+    (
+        ANN,
+        "80c90001111111110da29cdf419ac32ffb8873d1086d817880000080",
+        0,
+        Ok((
+            KEPT,
+            &[(
+                BOB,
+                Ok("80c9000111111111415a5627aa788ede05bdefd811a0fa7580000001"),
+            )],
+        )),
+    ),
+    (
+        ANN,
+        "80c900011111111111d2633090986b332435c6ed8d6cc14d80000000",
+        0,
+        Err(InboundFault::Rtcp(RtcpFault::TooOld)),
     ),
 ];
 
