@@ -10,11 +10,12 @@ use Rattle.perc_report_line.specs.Report.{Report, Acceptance, Accept}
 use Rattle.perc_run.specs.State.{Member, with_member}
 use Rattle.perc_run.specs.Delivering.{acceptance, with_receiver}
 use Rattle.perc_headline.specs.Headline.{Turns, AreApart, IsTrueAccept, acceptances}
-use Rattle.perc_headline.specs.Sound.{Core}
+use Rattle.perc_run.specs.Sound.{Core}
 use Rattle.perc_headline.proofs.Lookups.{Keeps, changed_all, contains_one}
 use Rattle.perc_headline.proofs.Turns.{IsMade, acceptances_more, as_sent_more, made_longer, names_send, true_longer}
 use Rattle.perc_headline.proofs.Hearing.{Hears, IsHeard, heard_row, hears_other}
-use Rattle.perc_headline.proofs.Facts.{Facts, IsNamed, changed_sound, member_same, named_changed}
+use Rattle.perc_headline.proofs.Facts.{Facts, IsNamed, named_changed}
+use Rattle.perc_headline.proofs.Sound.{changed_sound, member_same}
 
 pub receiver_keeps : (r : Receiver) → Keeps (with_receiver r)
 receiver_keeps r = record { name = λ m. refl; ssrc = λ m. refl }

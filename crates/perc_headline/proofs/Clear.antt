@@ -21,7 +21,7 @@ use Rattle.perc_distributor.specs.Forwarding.{Sealing, sealing_of}
 use Rattle.perc_run.specs.State.{Datagram, Member, State, has_name, with_member}
 use Rattle.perc_run.specs.Sending.{with_send}
 use Rattle.perc_headline.specs.Nonces.{iv_of}
-use Rattle.perc_headline.specs.Sound.{AreOthers, IsMember, IsSomebody, IsSound, core_of}
+use Rattle.perc_run.specs.Sound.{AreOthers, IsMember, IsSomebody, IsSound, core_of}
 use Rattle.perc_headline.proofs.Lookups.{Keeps, changed, changed_all, contains_at, contains_map, one_or_two, place_of, somebody_changed, two_places}
 use Rattle.perc_headline.proofs.Sealing.{InRange, IsRecorded}
 use Rattle.perc_headline.proofs.Fitting.{Fits}

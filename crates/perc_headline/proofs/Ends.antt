@@ -18,7 +18,7 @@ use Rattle.perc_run.specs.Delivering.{answer_line, by_cipher, deliver_turn, deli
 use Rattle.perc_run.specs.Turn.{turn, turn_under}
 use Rattle.perc_run.specs.Report.{Foreign, Run}
 use Rattle.perc_headline.specs.Headline.{DeliversForeign, DeliversRtp, Turns}
-use Rattle.perc_headline.specs.Sound.{IsMember, KeysFit, core_of}
+use Rattle.perc_run.specs.Sound.{IsMember, KeysFit, core_of}
 use Rattle.perc_headline.proofs.Lookups.{IsFound, found_by_name}
 use Rattle.perc_headline.proofs.Facts.{Facts}
 use Rattle.perc_headline.proofs.Genuine.{deliver_is}

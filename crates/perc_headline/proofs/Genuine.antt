@@ -19,7 +19,7 @@ use Rattle.perc_run.specs.State.{Datagram, Member, State, Turn, Goes, Halts, Ref
 use Rattle.perc_run.specs.Delivering.{Judge, answer_line, by_cipher, deliver_turn, delivered, heard_turn}
 use Rattle.perc_run.specs.Turn.{turn, turn_under}
 use Rattle.perc_headline.specs.Headline.{AcceptsGenuine, DeliversRtp, TellsRow, Turns}
-use Rattle.perc_headline.specs.Sound.{core_of}
+use Rattle.perc_run.specs.Sound.{core_of}
 use Rattle.perc_headline.proofs.Lookups.{IsFound, found_by_name}
 use Rattle.perc_headline.proofs.Known.{known}
 use Rattle.perc_headline.proofs.Turns.{told_is}

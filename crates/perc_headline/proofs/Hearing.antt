@@ -19,7 +19,7 @@ use Rattle.perc_report_line.specs.Report.{Acceptance}
 use Rattle.perc_run.specs.State.{Member}
 use Rattle.perc_run.specs.Delivering.{acceptance, row_at, with_receiver}
 use Rattle.perc_headline.specs.Headline.{AreApart}
-use Rattle.perc_headline.specs.Sound.{AreOtherDatagrams}
+use Rattle.perc_run.specs.Sound.{AreOtherDatagrams}
 use Rattle.perc_headline.proofs.Lookups.{one_or_two, two_places}
 use Rattle.perc_headline.proofs.Secrets.{right_behind}
 

@@ -19,9 +19,9 @@ use Rattle.perc_distributor.specs.Inbound.{in_set}
 use Rattle.perc_distributor.specs.Forwarding.{Sealing}
 use Rattle.perc_run.specs.State.{Member, State}
 use Rattle.perc_run.specs.Joining.{are_used, entry_of, has_pair}
-use Rattle.perc_headline.specs.Sound.{AreOthers}
+use Rattle.perc_run.specs.Sound.{AreOthers}
 use Rattle.perc_headline.proofs.Lookups.{at_end, at_longer, at_push}
-use Rattle.perc_headline.proofs.Facts.{somebody_longer}
+use Rattle.perc_headline.proofs.Sound.{somebody_longer}
 use Rattle.perc_headline.proofs.Clear.{AreApart, AreOtherPairs, HasOrigin, IsAhead, IsClear, IsEntryOf, IsKept, IsOfPair, IsSealer, Pair, Wire, less_in, pair_of, pairs_of, wire_of}
 
 -- ---- new pairs

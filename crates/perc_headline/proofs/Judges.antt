@@ -19,7 +19,7 @@ use Rattle.perc_run.specs.Delivering.{answer_line, by_cipher, by_table, deliver_
 use Rattle.perc_run.specs.Turn.{form_turn, is_later, turn, turn_under}
 use Rattle.perc_run.specs.Report.{turn_at}
 use Rattle.perc_headline.specs.Headline.{Turns, acceptances}
-use Rattle.perc_headline.specs.Sound.{core_of}
+use Rattle.perc_run.specs.Sound.{core_of}
 use Rattle.perc_headline.proofs.Lookups.{IsFound, found_by_name}
 use Rattle.perc_headline.proofs.Secrets.{right_behind}
 use Rattle.perc_headline.proofs.Hearing.{Hears}

@@ -4,6 +4,7 @@ pub mod Secrets
 pub mod Sends
 pub mod Turns
 pub mod Hearing
+pub mod Sound
 pub mod Facts
 pub mod Sent
 pub mod Accepted
@@ -22,3 +23,6 @@ pub mod Forwarded
 pub mod Nonces
 pub mod SealLaws
 pub mod Runs
+pub mod Entries
+pub mod Recipients
+pub mod Orderly

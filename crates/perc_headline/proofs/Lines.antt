@@ -3,7 +3,7 @@ use Rattle.std.proofs.Common.{◌≡◌, ℕ, ◌+◌, ◌⊎◌, inl, inr, Bool
 use Rattle.std.specs.List.{filter_map, list_any}
 use Rattle.std.specs.Option.{option_map_or}
 use Rattle.std.specs.Str.{bytes_eq}
-use Rattle.std.specs.Prelude.{nat_le, ◌==◌, All}
+use Rattle.std.specs.Prelude.{◌<◌, nat_le, ◌==◌, All}
 use Rattle.std.proofs.lemmas.Bool.{eqb-false, eqb-true, leb-false, or_cases, or_parts}
 use Rattle.std.proofs.lemmas.List.Elements.{All-contains, All-cons, All-nil}
 use Rattle.std.proofs.lemmas.Slice.Eq.{bytes_eq-Decides}
@@ -28,12 +28,13 @@ use Rattle.perc_run.specs.State.{State, Member, Turn, Goes, Refused, Halts, at_m
 use Rattle.perc_run.specs.Keys.{denial_of, ekt_turn, grant_turn, granted, rekey_turn, rekeyed, with_grant, with_rekey}
 use Rattle.perc_run.specs.Joining.{are_used, gone, is_crowded, is_known, join_turn, join_with, joined, leave_turn, new_member, newest, pair_of}
 use Rattle.perc_headline.specs.Headline.{Turns, acceptances, accepted_in}
-use Rattle.perc_headline.specs.Sound.{AreOthers, IsBefore, IsMember, core_of}
+use Rattle.perc_run.specs.Sound.{AreOthers, IsBefore, IsMember, IsSound, core_of}
 use Rattle.perc_headline.proofs.Lookups.{IsFound, found_by_name}
 use Rattle.perc_headline.proofs.Secrets.{IsOfSpi, fits_key, found_secret, newest_there}
 use Rattle.perc_headline.proofs.Sends.{sending_started, sending_taken}
 use Rattle.perc_headline.proofs.Hearing.{hears_granted, hears_same}
-use Rattle.perc_headline.proofs.Facts.{Facts, IsChange, IsNew, facts_change, facts_issue, facts_join, member_same, quiet_line}
+use Rattle.perc_headline.proofs.Facts.{Facts, IsChange, IsNew, facts_change, facts_issue, facts_join, quiet_line}
+use Rattle.perc_headline.proofs.Sound.{member_same, nothing_sent}
 
 -- the line delivers something
 abbrev pub IsDelivery : Script → Type 0
@@ -68,6 +69,19 @@ key_size key is =
       | inr long ↦ inr (eqb-true (length key) 32 long)
     ]
 
+-- the record that a line issues
+abbrev pub secret_issued : State → List ℕ → List ℕ → Secret
+secret_issued s key salt = record { spi = length s.secrets + 1; key = key; salt = salt }
+
+pub right_secret : (s : State) (key salt : List ℕ) → IsScript (script.Ekt key salt) → length s.secrets < most_spis → IsSecret (secret_issued s key salt)
+right_secret s key salt said few = record {
+  spi = omega arith;
+  size = key_size key said.0.passes;
+  key = bytes_from key said.0.fits.octets;
+  salt_size = eqb-true (length salt) 12 said.1.passes;
+  salt = bytes_from salt said.1.fits.octets;
+}
+
 ekt_by : (turns : Turns) (s : State) (profile : Profile) (key salt : List ℕ) (known full : Bool) → s.profile ≡ Some profile → IsScript (script.Ekt key salt) → key_fits profile key ≡ true
     → nat_le most_spis (length s.secrets) ≡ full → Facts turns (core_of s)
     → StaysSo turns (script.Ekt key salt) (cond known (Refused reason.Key) (cond full (Refused reason.Limit)
@@ -75,17 +89,10 @@ ekt_by : (turns : Turns) (s : State) (profile : Profile) (key salt : List ℕ) (
 ekt_by turns s profile key salt true full head said fit room f = tt
 ekt_by turns s profile key salt false true head said fit room f = tt
 ekt_by turns s profile key salt false false head said fit room f =
-    let few = leb-false most_spis (length s.secrets) room in
-    let secret : Secret = record { spi = length s.secrets + 1; key = key; salt = salt } in
-    let right : IsSecret secret = record {
-      spi = omega arith;
-      size = key_size key said.0.passes;
-      key = bytes_from key said.0.fits.octets;
-      salt_size = eqb-true (length salt) 12 said.1.passes;
-      salt = bytes_from salt said.1.fits.octets;
-    } in
+    let secret : Secret = secret_issued s key salt in
     quiet_line turns (script.Ekt key salt) (report.Ekt (length s.secrets + 1) ∷ []) (record (core_of s) { secrets = s.secrets ++ secret ∷ [] }) refl
-    (facts_issue turns (core_of s) profile secret head right refl (eqb-true (length key) (key_length profile) fit) f)
+    (facts_issue turns (core_of s) profile secret head (right_secret s key salt said (leb-false most_spis (length s.secrets) room)) refl
+    (eqb-true (length key) (key_length profile) fit) f)
 
 pub ekt_stays : (turns : Turns) (s : State) (profile : Profile) (key salt : List ℕ) → s.profile ≡ Some profile → IsScript (script.Ekt key salt) → key_fits profile key ≡ true
     → Facts turns (core_of s) → StaysSo turns (script.Ekt key salt) (ekt_turn s key salt)
@@ -120,27 +127,31 @@ pub record Newcomer : Type 0 where
 abbrev pub join_line : Newcomer → Script
 join_line w = script.Join w.name w.ssrc w.seq w.client w.server w.key
 
-abbrev member_of : State → Profile → Newcomer → Secret → Member
+abbrev pub member_of : State → Profile → Newcomer → Secret → Member
 member_of s profile w secret = new_member s profile w.name w.ssrc w.seq (pair_of w.client) (pair_of w.server) secret w.key
+
+pub new_sends : (s : State) (profile : Profile) (w : Newcomer) (secret : Secret) → s.profile ≡ Some profile → IsScript (join_line w) → key_fits profile w.key ≡ true
+    → newest s.secrets ≡ Some secret → IsSound (core_of s) → IsMember s.secrets nothing_sent (length s.datagrams) (member_of s profile w secret)
+new_sends s profile w secret head said fit last sound =
+    let there = newest_there s.secrets secret last in
+    let ssrc_most = said.1 in
+    let seq_most = said.2 in
+    let size : length w.key ≡ length secret.key = eqb-true (length w.key) (key_length profile) fit ∙ sym (fits_key profile s.profile s.secrets secret head sound.fits there) in record {
+      sending = sending_started (pair_of w.client) w.ssrc w.seq secret w.key (omega arith) said.2 size (bytes_from w.key said.5.fits.octets);
+      sender = refl;
+      secret = sound.issued.last secret last;
+      few = omega arith;
+      before = All-nil (IsBefore (member_of s profile w secret));
+    }
 
 is_new : (turns : Turns) (s : State) (profile : Profile) (w : Newcomer) (secret : Secret) → s.profile ≡ Some profile → IsScript (join_line w) → key_fits profile w.key ≡ true
     → newest s.secrets ≡ Some secret → is_known s w.name w.ssrc ≡ false → Facts turns (core_of s) → IsNew (core_of s) (member_of s profile w secret)
 is_new turns s profile w secret head said fit last known f =
-    let there = newest_there s.secrets secret last in
-    let issued = f.sound.issued.last secret last in
-    let ssrc_most = said.1 in
-    let seq_most = said.2 in
-    let size : length w.key ≡ length secret.key = eqb-true (length w.key) (key_length profile) fit ∙ sym (fits_key profile s.profile s.secrets secret head f.sound.fits there) in record {
-      member = record {
-        sending = sending_started (pair_of w.client) w.ssrc w.seq secret w.key (omega arith) said.2 size (bytes_from w.key said.5.fits.octets);
-        sender = refl;
-        secret = issued;
-        few = omega arith;
-        before = All-nil (IsBefore (member_of s profile w secret));
-      };
+    let issued = f.sound.issued.last secret last in record {
+      member = new_sends s profile w secret head said fit last f.sound;
       held = secret ∷ [];
       issued = All-cons (λ (t : Secret). secret_of s.secrets t.spi ≡ Some t) secret [] issued (All-nil (λ (t : Secret). secret_of s.secrets t.spi ≡ Some t));
-      sound = receiver.started_sound s.table w.ssrc (pair_of w.server) secret (All-contains IsSecret s.secrets secret f.sound.issued.right there);
+      sound = receiver.started_sound s.table w.ssrc (pair_of w.server) secret (All-contains IsSecret s.secrets secret f.sound.issued.right (newest_there s.secrets secret last));
       others = all_others w.name w.ssrc (member_of s profile w secret) s.members refl refl known;
     }
 
@@ -204,20 +215,25 @@ spi_taken : (answer : Result (Option ℕ) OldSpi) (key : Result ℕ GrantFault) 
 spi_taken (Ok retires) key epoch e = (retires, refl)
 spi_taken (Err old) key epoch e = absurd (cc)
 
+pub granted_sends : (s : State) (name key : List ℕ) (spi : ℕ) (profile : Profile) (m : Member) (secret : Secret) (epoch : ℕ) → s.profile ≡ Some profile
+    → IsScript (script.Grant name spi key) → key_fits profile key ≡ true → IsOfSpi s.secrets spi secret → grant_answer m.endpoint secret key ≡ Ok epoch → IsSound (core_of s)
+    → IsMember s.secrets s.table (length s.datagrams) m → IsMember s.secrets s.table (length s.datagrams) (with_grant secret key m)
+granted_sends s name key spi profile m secret epoch head said fit of answer sound is =
+    let size : length key ≡ length secret.key = eqb-true (length key) (key_length profile) fit ∙ sym (fits_key profile s.profile s.secrets secret head sound.fits of.there) in
+    member_taken s.secrets s.table (length s.datagrams) m (with_grant secret key m) secret key refl
+    (ap (λ (a : Result ℕ GrantFault). (after_grant m.endpoint secret key a).sending) answer) of.is size (bytes_from key said.2.fits.octets) is
+
 grant_by : (turns : Turns) (s : State) (name key : List ℕ) (spi : ℕ) (profile : Profile) (m : Member) (secret : Secret) (answer : Result ℕ GrantFault) → s.profile ≡ Some profile
     → IsScript (script.Grant name spi key) → key_fits profile key ≡ true → IsFound s.members name m → IsOfSpi s.secrets spi secret → grant_answer m.endpoint secret key ≡ answer
     → Facts turns (core_of s) → StaysSo turns (script.Grant name spi key) (granted s m secret key answer)
 grant_by turns s name key spi profile m secret (Err fault) head said fit found of answer f = stays turns s (script.Grant name spi key) (report.Denied m.name (denial_of fault) ∷ []) refl f
 grant_by turns s name key spi profile m secret (Ok epoch) head said fit found of answer f =
-    let size : length key ≡ length secret.key = eqb-true (length key) (key_length profile) fit ∙ sym (fits_key profile s.profile s.secrets secret head f.sound.fits of.there) in
     let change : Member → Member = with_grant secret key in
     let old = spi_taken (spi_answer (live_of m.endpoint.receiving.secrets) secret.spi) (taken_key (take_answer m.endpoint.sending.sending secret.spi key)) epoch answer in
     changes turns s (script.Grant name spi key) (report.Granted m.name secret.spi ∷ []) m change refl (record {
       there = found.there;
       keeps = record { name = λ n. refl; ssrc = λ n. refl };
-      member = λ is.
-          member_taken s.secrets s.table (length s.datagrams) m (change m) secret key refl (ap (λ (a : Result ℕ GrantFault). (after_grant m.endpoint secret key a).sending) answer)
-          of.is size (bytes_from key said.2.fits.octets) is;
+      member = λ is. granted_sends s name key spi profile m secret epoch head said fit of answer f.sound is;
       hears = λ h.
           hears_granted s.secrets s.table (acceptances turns) m (change m) secret old.0 (All-contains IsSecret s.secrets secret f.sound.issued.right of.there) of.is old.1 refl
           (ap (λ (a : Result ℕ GrantFault). (after_grant m.endpoint secret key a).receiving) answer) h;
@@ -236,21 +252,26 @@ unfolding grant_turn
 grant_stays turns s name key spi profile head said fit f =
     at_name turns (script.Grant name spi key) s name _ λ m found. grant_at turns s name key spi profile m (secret_of s.secrets spi) head said fit found refl f
 
+pub rekeyed_sends : (s : State) (name key : List ℕ) (profile : Profile) (m : Member) (epoch : ℕ) → s.profile ≡ Some profile → IsScript (script.Rekey name key)
+    → key_fits profile key ≡ true → rekey_answer m.endpoint key ≡ Ok epoch → IsSound (core_of s) → IsMember s.secrets s.table (length s.datagrams) m
+    → IsMember s.secrets s.table (length s.datagrams) (with_rekey key m)
+rekeyed_sends s name key profile m epoch head said fit answer sound is =
+    let secret : Secret = m.endpoint.sending.secret in
+    let of = found_secret s.secrets secret.spi secret is.secret in
+    let size : length key ≡ length secret.key = eqb-true (length key) (key_length profile) fit ∙ sym (fits_key profile s.profile s.secrets secret head sound.fits of.there) in
+    member_taken s.secrets s.table (length s.datagrams) m (with_rekey key m) secret key refl
+    (ap (λ (a : Result ℕ GrantFault). (after_rekey m.endpoint key a).sending) answer) of.is size (bytes_from key said.1.fits.octets) is
+
 rekey_by : (turns : Turns) (s : State) (name key : List ℕ) (profile : Profile) (m : Member) (answer : Result ℕ GrantFault) → s.profile ≡ Some profile
     → IsScript (script.Rekey name key) → key_fits profile key ≡ true → IsFound s.members name m → rekey_answer m.endpoint key ≡ answer
     → Facts turns (core_of s) → StaysSo turns (script.Rekey name key) (rekeyed s m key answer)
 rekey_by turns s name key profile m (Err fault) head said fit found answer f = stays turns s (script.Rekey name key) (report.Denied m.name (denial_of fault) ∷ []) refl f
 rekey_by turns s name key profile m (Ok epoch) head said fit found answer f =
-    let secret : Secret = m.endpoint.sending.secret in
     let change : Member → Member = with_rekey key in
-    changes turns s (script.Rekey name key) (report.Rekeyed m.name secret.spi epoch ∷ []) m change refl (record {
+    changes turns s (script.Rekey name key) (report.Rekeyed m.name m.endpoint.sending.secret.spi epoch ∷ []) m change refl (record {
       there = found.there;
       keeps = record { name = λ n. refl; ssrc = λ n. refl };
-      member = λ is.
-          let of = found_secret s.secrets secret.spi secret is.secret in
-          let size : length key ≡ length secret.key = eqb-true (length key) (key_length profile) fit ∙ sym (fits_key profile s.profile s.secrets secret head f.sound.fits of.there) in
-          member_taken s.secrets s.table (length s.datagrams) m (change m) secret key refl (ap (λ (a : Result ℕ GrantFault). (after_rekey m.endpoint key a).sending) answer)
-          of.is size (bytes_from key said.1.fits.octets) is;
+      member = λ is. rekeyed_sends s name key profile m epoch head said fit answer f.sound is;
       hears = λ h.
           hears_same s.secrets s.table (acceptances turns) m (change m) refl (ap (λ (a : Result ℕ GrantFault). (after_rekey m.endpoint key a).receiving) answer) h;
     }) f

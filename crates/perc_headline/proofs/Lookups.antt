@@ -8,7 +8,7 @@ use Rattle.std.proofs.lemmas.List.Elements.{All-map, Contains-get_or}
 use Rattle.std.proofs.lemmas.Slice.Eq.{bytes_eq-Decides}
 use Rattle.perc_contexts.proofs.ReceivingLaws.{found_of}
 use Rattle.perc_run.specs.State.{State, Member, has_name, is_present, member_named, with_member}
-use Rattle.perc_headline.specs.Sound.{AreOthers, IsSomebody}
+use Rattle.perc_run.specs.Sound.{AreOthers, IsSomebody}
 
 -- ---- places
 
@@ -52,7 +52,7 @@ contains_one y x (suc k, within, is) = absurd (omega arith)
 
 -- ---- two of a list
 
-one_place : {X : Type 0} (xs : List X) (a b : X) (i j : ℕ) → i ≡ j → i < length xs → get_or xs i a ≡ a → get_or xs j b ≡ b → a ≡ b
+pub one_place : {X : Type 0} (xs : List X) (a b : X) (i j : ℕ) → i ≡ j → i < length xs → get_or xs i a ≡ a → get_or xs j b ≡ b → a ≡ b
 one_place xs a b i j same within is_a is_b = sym is_a ∙ get_or_default xs i a b within ∙ ap (λ (k : ℕ). get_or xs k b) same ∙ is_b
 
 pub two_places : {X : Type 0} (R : X → X → Type 0) (xs : List X) (a b : X) (i j : ℕ) → AllPairs R xs → i < j → j < length xs → get_or xs i a ≡ a → get_or xs j b ≡ b → R a b

@@ -41,7 +41,7 @@ use Rattle.perc_run.specs.Delivering.{answer_line, by_cipher, control_line, deli
 use Rattle.perc_run.specs.Turn.{first_turn, form_turn, is_later, turn, turn_under}
 use Rattle.perc_headline.specs.Headline.{Turns}
 use Rattle.perc_headline.specs.Nonces.{forward_seals, line_seals, sent_seals, step_seals}
-use Rattle.perc_headline.specs.Sound.{IsMember, core_of}
+use Rattle.perc_run.specs.Sound.{IsMember, core_of}
 use Rattle.perc_headline.proofs.Lookups.{IsFound, found_by_name}
 use Rattle.perc_headline.proofs.Facts.{Facts}
 use Rattle.perc_headline.proofs.Lines.{Newcomer, all_others, join_line}

@@ -6,7 +6,6 @@ use Rattle.std.proofs.lemmas.List.{append-nil, append_assoc}
 use Rattle.std.proofs.lemmas.List.Elements.{All-nil}
 use Rattle.perc_base.specs.Lines.{lines_of, longest}
 use Rattle.perc_base.specs.declared.profile.Profile.{Profile}
-use Rattle.perc_receiver.specs.Table.{IsRightRow, IsRightWrap, IsSecret, Secret}
 use Rattle.perc_outgoing.specs.History.{AreOtherSeals, Seal}
 use Rattle.perc_script_line.specs.Script as script
 use Rattle.perc_script_line.specs.Script.{Deliver, IsScript, Script, fits, key_fits, pair_fits, script_of}
@@ -20,9 +19,10 @@ use Rattle.perc_run.specs.Turn.{first_turn, form_turn, is_later, turn, turn_unde
 use Rattle.perc_run.specs.Report.{Done, End, Foreign, Run, Stopped, after_turn, ended, line_or_nothing, run_behind, run_by, run_from, turn_at}
 use Rattle.perc_headline.specs.Headline.{AcceptsGenuine, DeliversForeign, EndsAtForeign, Headline, IsLineAt, Turns, state_after, state_of}
 use Rattle.perc_headline.specs.Nonces.{line_seals, run_seals}
-use Rattle.perc_headline.specs.Sound.{core_of}
+use Rattle.perc_run.specs.Sound.{core_of}
 use Rattle.perc_headline.proofs.Turns.{GenuineIn, InTurn, after_more, after_these, genuine_more, in_turn_more}
 use Rattle.perc_headline.proofs.Facts.{Facts, facts_profile, quiet_line}
+use Rattle.perc_headline.proofs.Sound.{sound_nobody}
 use Rattle.perc_headline.proofs.Lines.{IsDelivery, StaysSo, ekt_stays, grant_stays, join_stays, leave_stays, rekey_stays, stays}
 use Rattle.perc_headline.proofs.Wires.{deliver_stays, forward_stays, send_stays}
 use Rattle.perc_headline.proofs.Judges.{at_same, turn_same}
@@ -34,7 +34,7 @@ use Rattle.perc_headline.proofs.Ends.{EndsSo, IsLineFrom, foreign_halts, halted}
 
 -- ---- one line
 
-join_key : (profile : Profile) (client server key : List ℕ) → (pair_fits profile client && pair_fits profile server && key_fits profile key) ≡ true → key_fits profile key ≡ true
+pub join_key : (profile : Profile) (client server key : List ℕ) → (pair_fits profile client && pair_fits profile server && key_fits profile key) ≡ true → key_fits profile key ≡ true
 join_key profile client server key fit = (and_parts (pair_fits profile client && pair_fits profile server) (key_fits profile key) fit).1
 
 form_stays : (turns : Turns) (s : State) (profile : Profile) (line : Script) → s.profile ≡ Some profile → fits profile line ≡ true → IsScript line → Facts turns (core_of s)
@@ -167,16 +167,7 @@ holds_nobody = record {
   by_cipher = nobody_done by_cipher;
   by_table = nobody_done by_table;
   facts = record {
-    sound = record {
-      fits = refl;
-      issued = record { right = All-nil IsSecret; below = All-nil (λ (s : Secret). _); last = λ s none. absurd (cc) };
-      table = record { rows = All-nil (IsRightRow []); one_row = λ i j d below within. absurd (omega arith); wraps = All-nil (IsRightWrap []) };
-      others = λ i j d below within. absurd (omega arith);
-      members = λ k d within. absurd (omega arith);
-      joined = λ k d within. absurd (omega arith);
-      datagrams = λ i j d below within. absurd (omega arith);
-      made = λ k d within. absurd (omega arith);
-    };
+    sound = sound_nobody;
     hearing = λ k d within. absurd (omega arith);
     named = λ k d within. absurd (omega arith);
     rows = λ k d within. absurd (omega arith);

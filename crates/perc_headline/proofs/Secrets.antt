@@ -14,7 +14,7 @@ use Rattle.perc_base.specs.Profile.{key_length}
 use Rattle.perc_receiver.specs.Table.{IsRight, IsRightRow, IsRightWrap, IsSealedUnder, IsSecret, IsWrappedUnder, Row, Secret, Table, Wrap, secret_of}
 use Rattle.perc_receiver.proofs.Once.{secret_more}
 use Rattle.perc_run.specs.Joining.{newest}
-use Rattle.perc_headline.specs.Sound.{AreIssued, KeysFit}
+use Rattle.perc_run.specs.Sound.{AreIssued, KeysFit}
 
 -- ---- by SPI
 

@@ -13,12 +13,13 @@ use Rattle.perc_report_line.specs.Report.{Report, WireUp}
 use Rattle.perc_run.specs.State.{Member, with_member}
 use Rattle.perc_run.specs.Sending.{content_of, with_send}
 use Rattle.perc_headline.specs.Headline.{Turns, acceptances}
-use Rattle.perc_headline.specs.Sound.{AreOtherDatagrams, AreOthers, Core, IsBefore, IsMember, IsOfMember, IsSound}
+use Rattle.perc_run.specs.Sound.{AreOtherDatagrams, AreOthers, Core, IsBefore, IsMember, IsOfMember, IsSound}
 use Rattle.perc_headline.proofs.Lookups.{Keeps, at_end, changed_all, others_changed}
 use Rattle.perc_headline.proofs.Sends.{IsMedia, behind_header, sendable, sending_sent, sent_packet}
 use Rattle.perc_headline.proofs.Turns.{IsMade}
 use Rattle.perc_headline.proofs.Hearing.{Hears, hears_same, hears_table}
-use Rattle.perc_headline.proofs.Facts.{Facts, IsNamed, joined_changed, named_changed, quiet_line}
+use Rattle.perc_headline.proofs.Facts.{Facts, IsNamed, named_changed, quiet_line}
+use Rattle.perc_headline.proofs.Sound.{joined_changed}
 
 -- ---- the table
 
@@ -83,7 +84,7 @@ other_after c m n content made count sender other is =
       before = All-push (IsBefore n) c.table.rows (row_sent c m content) is.before (λ same. absurd (other.ssrc (sym same ∙ sender.sender)));
     }
 
-sound_sent : (c : Core) (m : Member) (content : Content) (made : ℕ) → made ≡ c.made + 1 → IsSender c m content → IsSound c → IsSound (core_sent c m content made)
+pub sound_sent : (c : Core) (m : Member) (content : Content) (made : ℕ) → made ≡ c.made + 1 → IsSender c m content → IsSound c → IsSound (core_sent c m content made)
 sound_sent c m content made count is sound =
     let members : List Member = with_member m.name with_send c.members in
     let row : Row = row_sent c m content in record {

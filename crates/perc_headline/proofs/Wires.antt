@@ -2,7 +2,7 @@
 use Rattle.std.proofs.Common.{◌≡◌, ℕ, ◌+◌, Bool, true, false, cond, not, List, [], ◌∷◌, ◌++◌, length, Option, Some, None, Result, Ok, Err, refl, arith}
 use Rattle.std.specs.List.{filter_map, list_all}
 use Rattle.std.specs.Option.{option_map, option_map_or, is_some}
-use Rattle.std.specs.Prelude.{nat_le, nat_lt, ◌*◌}
+use Rattle.std.specs.Prelude.{Contains, ◌<◌, nat_le, nat_lt, ◌*◌}
 use Rattle.std.proofs.lemmas.Bool.{leb-false}
 use Rattle.std.proofs.lemmas.List.{length_push}
 use Rattle.std.proofs.lemmas.List.Elements.{All-contains}
@@ -32,12 +32,13 @@ use Rattle.perc_run.specs.Sending.{send_turn, sent_by, sent_turn, with_send}
 use Rattle.perc_run.specs.Forwarding.{are_present, associations_of, count_recipients, forward_by, forward_turn, forwarded, numbered, packet_in, reported_takings, rewrite_by, takings}
 use Rattle.perc_run.specs.Delivering.{answer_line, by_cipher, control_line, deliver_turn, delivered, heard_turn, media_refusal, with_receiver}
 use Rattle.perc_headline.specs.Headline.{Turns, acceptances, accepted_in}
-use Rattle.perc_headline.specs.Sound.{IsMember, core_of}
+use Rattle.perc_run.specs.Sound.{IsMember, IsSound, core_of}
 use Rattle.perc_headline.proofs.Lookups.{IsFound}
 use Rattle.perc_headline.proofs.Sends.{said_media}
 use Rattle.perc_headline.proofs.Hearing.{Hears, hears_refused}
-use Rattle.perc_headline.proofs.Facts.{Facts, facts_made, member_same, quiet_line}
-use Rattle.perc_headline.proofs.Sent.{Said, facts_send, said_content, said_line, table_sent}
+use Rattle.perc_headline.proofs.Facts.{Facts, facts_made, quiet_line}
+use Rattle.perc_headline.proofs.Sound.{member_same}
+use Rattle.perc_headline.proofs.Sent.{IsSender, Said, facts_send, said_content, said_line, table_sent}
 use Rattle.perc_headline.proofs.Accepted.{after_hearing, facts_accept, receiver_keeps}
 use Rattle.perc_headline.proofs.Quiet.{takings_quiet}
 use Rattle.perc_headline.proofs.Lines.{StaysSo, at_name, changes, stays}
@@ -45,24 +46,28 @@ use Rattle.perc_headline.proofs.Lines.{StaysSo, at_name, changes, stays}
 -- ---- send
 
 -- the state behind a send
-abbrev after_sending : State → Member → Said → State
+abbrev pub after_sending : State → Member → Said → State
 after_sending s m w = record s {
   members = with_member m.name with_send s.members;
   table = table_sent (core_of s) m (said_content w);
   datagrams = s.datagrams ++ sent_by m (said_content w) ∷ [];
 }
 
+pub is_sender : (s : State) (w : Said) (m : Member) → IsScript (said_line w) → Contains s.members m → length s.datagrams < most_datagrams → IsSound (core_of s)
+    → IsSender (core_of s) m (said_content w)
+is_sender s w m said there room sound =
+    let is : IsMember s.secrets s.table (length s.datagrams) m = All-contains (IsMember s.secrets s.table (length s.datagrams)) s.members m sound.members there in
+    let few = is.few in
+    record { there = there; media = said_media w.name w.pt w.marker w.timestamp w.payload w.options said; member = is; few = omega arith }
+
 send_by : (turns : Turns) (s : State) (w : Said) (m : Member) (full : Bool) → IsScript (said_line w) → IsFound s.members w.name m → nat_le most_datagrams (length s.datagrams) ≡ full
     → Facts turns (core_of s)
     → StaysSo turns (said_line w) (cond full (Refused reason.Limit) (Goes (report.WireUp (length s.datagrams + 1) m.name (sent_by m (said_content w)).octets ∷ []) (after_sending s m w)))
 send_by turns s w m true said found room f = tt
 send_by turns s w m false said found room f =
-    let left = leb-false most_datagrams (length s.datagrams) room in
-    let is : IsMember s.secrets s.table (length s.datagrams) m = All-contains (IsMember s.secrets s.table (length s.datagrams)) s.members m f.sound.members found.there in
-    let few = is.few in
     let d : Datagram = sent_by m (said_content w) in
     facts_send turns (core_of s) m w (length (s.datagrams ++ d ∷ [])) (length_push s.datagrams d) found.name_is
-    (record { there = found.there; media = said_media w.name w.pt w.marker w.timestamp w.payload w.options said; member = is; few = omega arith }) f
+    (is_sender s w m said found.there (leb-false most_datagrams (length s.datagrams) room) f.sound) f
 
 pub send_stays : (turns : Turns) (s : State) (w : Said) → IsScript (said_line w) → Facts turns (core_of s) → StaysSo turns (said_line w) (send_turn s w.name (said_content w))
 unfolding send_turn

@@ -7,9 +7,12 @@ ghost use Rattle.perc_keyset.specs.declared.Entry.{Entry};
 ghost use Rattle.perc_outgoing.specs.History.{AreOtherSeals};
 ghost use Rattle.perc_distributor.specs.Inbound.{Packet};
 ghost use Rattle.perc_distributor.specs.Forwarding.{Sealing, media_step};
-ghost use Rattle.perc_run.specs.State.{Member, nobody};
-ghost use Rattle.perc_run.specs.Delivering.{by_cipher, by_table};
-ghost use Rattle.perc_run.specs.Report.{run_by};
+ghost use Rattle.perc_script_line.specs.Script.{script_of};
+ghost use Rattle.perc_report_line.specs.Report.{Report};
+ghost use Rattle.perc_run.specs.State.{Goes, Member, State, nobody};
+ghost use Rattle.perc_run.specs.Delivering.{Judge, by_cipher, by_table};
+ghost use Rattle.perc_run.specs.Report.{run_by, turn_at};
+ghost use Rattle.perc_run.specs.Sound.{IsOrderly};
 ghost use Rattle.perc_headline.specs.Headline.{AreOfLines, EndsAtForeign, Headline};
 ghost use Rattle.perc_headline.specs.Nonces.{AreSealedWith, IsSentSealed, run_seals, step_seals};
 
@@ -67,3 +70,14 @@ pub fn seals_of_packets()
 pub fn turn_by_turn()
     ensures { (octets : List ℕ) → AreOfLines (lines_of octets) (run_by by_cipher octets).turns }
 {}
+
+/// A conference is orderly before the first line, and each line that goes on leaves it so, whoever judges what is delivered: the table is
+/// right for the secrets that were issued, names and SSRCs differ, the key set has the members that are present, and the limits are kept.
+pub fn always_orderly()
+    ensures first { IsOrderly nobody }
+    ensures next { (judge : Judge) (s : State) (octets : List ℕ) (lines : List Report) (next : State) → IsOrderly s
+        → turn_at judge s (script_of octets) ≡ Goes lines next → IsOrderly next }
+{
+    // The fields of each line are within their bounds.
+    one_spelling();
+}

@@ -5,4 +5,5 @@ pub mod Sending
 pub mod Forwarding
 pub mod Delivering
 pub mod Turn
+pub mod Sound
 pub mod Report

@@ -1,10 +1,12 @@
 -- What is always so while a script runs.
-use Rattle.std.specs.Prelude.{◌≡◌, ◌≢◌, ℕ, ◌+◌, ◌<◌, ◌≤◌, List, [], length, Option, Some, None, All, AllPairs, Contains}
+use Rattle.std.specs.Prelude.{if◌then◌else◌, ◌≡◌, ◌≢◌, ℕ, ◌+◌, ◌<◌, ◌≤◌, List, [], ◌∷◌, length, Option, Some, None, All, AllPairs, Contains, slice_get}
+use Rattle.byteorder.specs.Endian.{big_bytes}
 use Rattle.perc_base.specs.declared.profile.Profile.{Profile}
 use Rattle.perc_base.specs.Profile.{key_length}
+use Rattle.perc_keyset.specs.declared.Entry.{Entry}
 use Rattle.perc_receiver.specs.Table.{IsRight, IsSecret, Row, Secret, Table, secret_of}
 use Rattle.perc_outgoing.specs.Sending.{IsSending}
-use Rattle.perc_run.specs.State.{State, Member}
+use Rattle.perc_run.specs.State.{State, Member, most_datagrams, most_joins, most_spis}
 use Rattle.perc_run.specs.Joining.{newest}
 
 -- what a report's worth rests on: the profile, the secrets, the members, the table, and how many datagrams were made
@@ -69,3 +71,29 @@ pub record IsSound (c : Core) : Type 0 where
   pub joined : All (IsOfMember c.members) c.table.rows
   pub datagrams : AllPairs AreOtherDatagrams c.table.rows
   pub made : All (λ (row : Row). row.datagram ≤ c.made) c.table.rows
+
+-- ---- of a whole state
+
+-- Each member is of the head's profile; before the head there are none.
+abbrev pub AreOfProfile : Option Profile → List Member → Type 0
+AreOfProfile None members = members ≡ []
+AreOfProfile (Some profile) members = All (λ (m : Member). m.endpoint.profile ≡ profile) members
+
+-- the entries of the members that are present, in the order of joining; a member's serial is how many joined before it
+abbrev pub entries_from : ℕ → List Member → List Entry
+entries_from serial [] = []
+entries_from serial (m ∷ members) =
+    if m.present then record { association = m.association; serial = serial; client = m.client; server = m.server } ∷ entries_from (serial + 1) members
+    else entries_from (serial + 1) members
+
+-- Besides, each member sends under its client pair; its association is its number, from 1; the key set has the members that are present;
+-- and the limits are kept.
+pub record IsOrderly (s : State) : Type 0 where
+  pub sound : IsSound (core_of s)
+  pub profiles : AreOfProfile s.profile s.members
+  pub clients : All (λ (m : Member). m.endpoint.sending.client ≡ m.client) s.members
+  pub associations : (place : ℕ) (m : Member) → slice_get s.members place ≡ Some m → m.association ≡ big_bytes 16 (place + 1)
+  pub entries : s.set ≡ entries_from 0 s.members
+  pub few_spis : length s.secrets ≤ most_spis
+  pub few_members : length s.members ≤ most_joins
+  pub few_datagrams : length s.datagrams ≤ most_datagrams
