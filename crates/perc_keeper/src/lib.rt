@@ -7,3 +7,6 @@ mod memory;
 
 pub use keeper::{KeepFault, Keeper};
 pub use memory::MemKeeper;
+
+#[cfg(test)]
+mod tests;

@@ -1,3 +1,12 @@
+pub mod Feeding
+pub mod Feeds
 pub mod FoldLaws
+pub mod Hearing
+pub mod IssuingLaws
+pub mod Joining
+pub mod PieceLaws
 pub mod RecordLaws
+pub mod Rolling
 pub mod Rows
+pub mod Running
+pub mod Stopping

@@ -1,6 +1,13 @@
 pub mod Answers
+pub mod Causes
 pub mod ClearRecord
+pub mod Desks
 pub mod Distributing
+pub mod Feeding
+pub mod Gives
 pub mod IssuedOnce
+pub mod KeyDistributor
+pub mod Pieces
 pub mod Rows
 pub mod Told
+pub mod Wanted

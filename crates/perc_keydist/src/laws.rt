@@ -2,6 +2,7 @@
 ghost use Rattle.std.specs.Prelude.{◌≡◌, ◌<◌, ℕ, List, Some, slice_index};
 ghost use Rattle.perc_base.specs.declared.profile.Profile.{Profile};
 ghost use Rattle.perc_keydist.specs.IssuedOnce.{EventsAreSafe, RunsAreSafe};
+ghost use Rattle.perc_keydist.specs.Pieces.{OneOutcome, TwoFeedsAreOne};
 ghost use Rattle.perc_keydist.specs.Rows.{WorkedRows};
 ghost use Rattle.perc_keydist.specs.ClearRecord.{IsClear, Record, record_in, spelling};
 
@@ -21,6 +22,17 @@ pub fn issued_once()
 /// Nor are they over any key distributors one after another, each of which goes on from what is kept.
 pub fn one_after_another()
     ensures { RunsAreSafe }
+{}
+
+/// Octets fed in pieces are done as those fed whole: two feeds one after the other, of which the first brought no fault, are one
+/// feed of both.
+pub fn fed_in_pieces()
+    ensures { TwoFeedsAreOne }
+{}
+
+/// The same octets are done the same, where they bring no fault and the outside told the same before.
+pub fn one_outcome()
+    ensures { OneOutcome }
 {}
 
 /// What a key distributor does in runs that were worked by hand, to the octet.

@@ -2,10 +2,20 @@
 //! gives no key twice.
 #![tactic(auto)]
 
+mod admission;
+mod desk;
+mod distributor;
+mod fault;
+#[cfg(test)]
+mod feed_tests;
 mod handshake;
+mod issuing;
 pub mod laws;
 mod record;
+mod replies;
 
+pub use distributor::KeyDist;
+pub use fault::KdFault;
 pub use handshake::{ClearHandshake, Handshake, Hello};
 pub use record::ClearRecord;
 

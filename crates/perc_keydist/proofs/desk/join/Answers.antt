@@ -1,0 +1,9 @@
+use Rattle.std.proofs.Common.{◌≡◌, Option, Some, IfSome, subst, sym, ◌∙◌}
+use Rattle.perc_keeper.specs.Lists.{Lists, member_of}
+use Rattle.perc_keydist.proofs.Joining.{no_member}
+use Rattle.perc_keydist.proofs.desk.join.Goals as goal
+
+pub join_stranger-requires : goal.join_stranger-requires
+join_stranger-requires g c = λ l known.
+    let found = subst (λ (o : Option Lists). IfSome o (λ l. c.in_ok-keys.field-0 ≡ member_of l.members c.args.association.now)) (sym c.member.ensures.kept ∙ known) c.in_ok-keys.ensures.answer in
+    no_member l.members c.args.association.now (sym c.in-None.is ∙ found)

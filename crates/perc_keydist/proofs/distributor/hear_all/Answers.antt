@@ -1,0 +1,48 @@
+use Rattle.std.proofs.Common.{◌≡◌, refl, ap, rules, arith}
+use Rattle.std.proofs.lemmas.Result.{err_from_is_err_and}
+use Rattle.perc_tunnel.specs.Decoding.{Decoding}
+use Rattle.perc_keydist.proofs.Running.{goes_fed, goes_first, goes_on_held, goes_wrong}
+use Rattle.perc_keydist.proofs.distributor.hear_all.Goals as goal
+
+pub loop-rest-init : goal.loop-rest-init
+loop-rest-init g c = record {
+  heard = goes_first c.args.decoder.now c.args.bytes.now c.args.desk.now _ _ _ _;
+  ready = c.requires.ready;
+  part = c.requires.part;
+  all = refl;
+  few = omega arith;
+  profile = refl;
+  kept = refl;
+  keeper = omega arith;
+  hand = omega arith;
+  randoms = omega arith;
+}
+
+pub returns-in_err-left-clause-heard : goal.returns-in_err-left-clause-heard
+returns-in_err-left-clause-heard g c =
+    let i = c.loop-rest.invariant in
+    let f = c.feed_front-rest in
+    let first = goes_fed _ _ c.args.desk.now c.loop-rest.desk c.loop-rest.left _ _ _ _ _ _ _ c.loop-rest.decoder f.new.decoder c.loop-rest.rest.now f.result.now f.ensures.held f.ensures.rest i.heard in
+    let e = err_from_is_err_and c.from_residual.result c.from_residual.ensures.1 in
+    rw (e.1, e.2) (goes_wrong _ _ c.args.desk.now c.loop-rest.desk c.loop-rest.left _ _ _ _ _ _ _ f.new.decoder c.hear_held.new.decoder f.result.now c.hear_held.new.desk _ _ _ _ first i.kept i.profile
+    c.in_err-left.field-0.0 c.in_err-left.ensures.heard)
+
+pub loop-rest-preserved : goal.loop-rest-preserved
+loop-rest-preserved g c =
+    let i = c.loop-rest.invariant in
+    let f = c.feed_front-rest in
+    let first = goes_fed _ _ c.args.desk.now c.loop-rest.desk c.loop-rest.left _ _ _ _ _ _ _ c.loop-rest.decoder f.new.decoder c.loop-rest.rest.now f.result.now f.ensures.held f.ensures.rest i.heard in
+    let given : f.new.decoder.given ≡ c.loop-rest.decoder.given = ap (λ (d : Decoding). d.given) f.ensures.held in
+    record {
+      heard = goes_on_held _ _ c.args.desk.now c.loop-rest.desk c.loop-rest.left _ _ _ _ _ _ _ f.new.decoder c.hear_held.new.decoder f.result.now c.hear_held.new.desk _ _ _ _ first i.kept i.profile
+          c.in_ok-left.field-0 _ refl c.in_ok-left.ensures.heard;
+      ready = search rules;
+      part = search rules;
+      all = omega (arith, given, c.in_ok-left.ensures.all, f.ensures.all, i.all);
+      few = omega (arith, given, c.in_ok-left.ensures.left, i.few);
+      profile = search rules;
+      kept = search rules;
+      keeper = search rules;
+      hand = search rules;
+      randoms = search rules;
+    }

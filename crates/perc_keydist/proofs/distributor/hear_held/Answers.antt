@@ -1,0 +1,38 @@
+use Rattle.std.proofs.Common.{◌≡◌, ℕ, ◌+◌, ◌<◌, ◌≤◌, Bool, Option, IfSome, length, sym, ap, subst, ◌∙◌, add-zero, rules, arith}
+use Rattle.std.proofs.lemmas.Result.{err_from_is_err_and}
+use Rattle.perc_keydist.specs.Feeding.{count_next}
+use Rattle.perc_keydist.proofs.Running.{at_most_one, counts, held_ends, held_on}
+use Rattle.perc_keydist.proofs.distributor.hear_held.Goals as goal
+
+pub returns-in_err-has_left-clause-heard : goal.returns-in_err-has_left-clause-heard
+returns-in_err-has_left-clause-heard g c =
+    let i = c.loop-has_left.invariant in
+    let e = err_from_is_err_and c.from_residual.result c.from_residual.ensures.1 in
+    rw (e.1, e.2) (held_ends c.args.decoder.now.held c.args.decoder.now.given c.loop-has_left.decoder c.hear_next.new.decoder c.args.desk.now c.loop-has_left.desk c.hear_next.new.desk c.loop-has_left.left
+    _ _ _ _ _ _ _ _ _ _ _ i.heard i.kept i.profile count_next c.in_err-has_left.field-0.0 c.in_err-has_left.ensures.heard)
+
+pub returns-clause-heard : goal.returns-clause-heard
+returns-clause-heard g c =
+    let i = c.loop-has_left.invariant in
+    held_on c.args.decoder.now.held c.args.decoder.now.given c.loop-has_left.decoder c.hear_next.new.decoder c.args.desk.now c.loop-has_left.desk c.hear_next.new.desk c.loop-has_left.left
+    _ _ _ _ _ _ _ _ _ _ _ i.heard i.kept i.profile count_next c.in_ok-has_left.field-0 c.loop-has_left.left
+    (ap (λ (o : Option Bool). c.loop-has_left.left + count_next o) c.in_default.is ∙ add-zero c.loop-has_left.left) c.in_ok-has_left.ensures.heard
+
+pub loop-has_left-preserved : goal.loop-has_left-preserved
+loop-has_left-preserved g c =
+    let i = c.loop-has_left.invariant in
+    let count : count_next c.in_ok-has_left.field-0 ≡ c.from-left.result = ap count_next c.in-Some.is ∙ counts c.in-Some.has_left ∙ sym c.from-left.ensures in
+    let fewer = subst (λ (o : Option Bool). IfSome o (λ _. length c.hear_next.new.decoder.held < length c.loop-has_left.decoder.held)) c.in-Some.is c.in_ok-has_left.ensures.fewer in
+    let one : c.from-left.result ≤ 1 = subst (λ (k : ℕ). k ≤ 1) (sym c.from-left.ensures) (at_most_one c.in-Some.has_left) in
+    record {
+      heard = held_on c.args.decoder.now.held c.args.decoder.now.given c.loop-has_left.decoder c.hear_next.new.decoder c.args.desk.now c.loop-has_left.desk c.hear_next.new.desk c.loop-has_left.left
+          _ _ _ _ _ _ _ _ _ _ _ i.heard i.kept i.profile count_next c.in_ok-has_left.field-0 _ (ap (λ (k : ℕ). c.loop-has_left.left + k) count) c.in_ok-has_left.ensures.heard;
+      ready = search rules;
+      all = c.in_ok-has_left.ensures.all ∙ i.all;
+      few = omega (arith, i.few, c.in_ok-has_left.ensures.all, fewer, one);
+      profile = search rules;
+      kept = search rules;
+      keeper = search rules;
+      hand = search rules;
+      randoms = search rules;
+    }
