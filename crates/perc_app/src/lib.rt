@@ -6,5 +6,5 @@ mod tests;
 mod top;
 mod write;
 
-pub use perc_conference::{Counts, ReplayEnd, replay};
+pub use perc_replay::{Counts, ReplayEnd, replay};
 pub use top::{Status, run};

@@ -7,10 +7,10 @@ use std::process::Abort;
 use std::test::Fail;
 
 const OPENING: &str =
-    "conference clear\njoin Ann 11111111 1000 - - -\njoin Bob 22222222 2000 - - -\n";
+    "conference 0009\nekt 01010101010101010101010101010101 020202020202020202020202\njoin Ann 11111111 1000 c1c1c1c1c1c1c1c1c1c1c1c1c1c1c1c1c1c1c1c1c1c1c1c1c1c1c1c1 c2c2c2c2c2c2c2c2c2c2c2c2c2c2c2c2c2c2c2c2c2c2c2c2c2c2c2c2 d1d1d1d1d1d1d1d1d1d1d1d1d1d1d1d1\njoin Bob 22222222 2000 c3c3c3c3c3c3c3c3c3c3c3c3c3c3c3c3c3c3c3c3c3c3c3c3c3c3c3c3 c4c4c4c4c4c4c4c4c4c4c4c4c4c4c4c4c4c4c4c4c4c4c4c4c4c4c4c4 d2d2d2d2d2d2d2d2d2d2d2d2d2d2d2d2\n";
 
 const OPENED: &str =
-    "joined Ann 00000000-0000-0000-0000-000000000001\njoined Bob 00000000-0000-0000-0000-000000000002\n";
+    "ekt 1\njoined Ann 00000000-0000-0000-0000-000000000001\njoined Bob 00000000-0000-0000-0000-000000000002\n";
 
 // What came of a run.
 #[derive(Drop)]
@@ -79,70 +79,63 @@ fn words_in_no_form(rt: HostRuntime) -> Result<(), Fail> {
     are_refused(&rt, alloc, &["Replay"])
 }
 
-// Lines, each of which stands behind the three lines of the opening, with the error text.
-const REFUSED: [(&str, &str); 53] = [
-    ("conference clear\n", "perc: line 4: order\n"),
-    ("# a comment\n\nconference clear\n", "perc: line 6: order\n"),
-    ("conference 0009\n", "perc: line 4: later\n"),
-    ("conference\n", "perc: line 4: later\n"),
-    ("join Ann 33333333 1 - - -\n", "perc: line 4: name\n"),
-    ("join Cat 11111111 1 - - -\n", "perc: line 4: name\n"),
-    ("join cat 33333333 1 - - -\n", "perc: line 4: later\n"),
+// Lines, each of which stands behind the four lines of the opening, with the error text.
+const REFUSED: [(&str, &str); 40] = [
+    ("conference 0009\n", "perc: line 5: order\n"),
+    ("# a comment\n\nconference 0009\n", "perc: line 7: order\n"),
+    ("conference 000a\n", "perc: line 5: later\n"),
+    ("conference clear\n", "perc: line 5: form\n"),
+    ("conference\n", "perc: line 5: form\n"),
     (
-        "join Abcdefghijklmno1 33333333 1 - - -\nx\n",
-        "perc: line 5: later\n",
+        "ekt 01010101010101010101010101010101 020202020202020202020202\n",
+        "perc: line 5: key\n",
     ),
     (
-        "join Abcdefghijklmno12 33333333 1 - - -\n",
-        "perc: line 4: later\n",
+        "ekt 010101010101010101010101010101 020202020202020202020202\n",
+        "perc: line 5: form\n",
     ),
-    ("join Cat 33333333 65536 - - -\n", "perc: line 4: later\n"),
+    ("leave Cat\n", "perc: line 5: name\n"),
+    ("leave cat\n", "perc: line 5: form\n"),
     (
-        "join Cat 33333333 65535 - - -\nx\n",
-        "perc: line 5: later\n",
+        "grant Ann 1 d3d3d3d3d3d3d3d3d3d3d3d3d3d3d3d3\nx\n",
+        "perc: line 6: form\n",
     ),
-    ("join Cat 3333333 1 - - -\n", "perc: line 4: later\n"),
-    ("join Cat 3333333333 1 - - -\n", "perc: line 4: later\n"),
-    ("join Cat 33333333 1 - -\n", "perc: line 4: later\n"),
-    ("join Cat 33333333 1 - - - -\n", "perc: line 4: later\n"),
-    ("join Cat 33333333 1 00 - -\n", "perc: line 4: later\n"),
-    ("JOIN Cat 33333333 1 - - -\n", "perc: line 4: later\n"),
-    ("send Ann 096 1 160 616263\n", "perc: line 4: later\n"),
-    ("send Ann 96 1 160  616263\n", "perc: line 4: later\n"),
-    ("send Ann 96 1 160 616263 \n", "perc: line 4: later\n"),
-    (" send Ann 96 1 160 616263\n", "perc: line 4: later\n"),
-    ("send Ann 96\t1 160 616263\n", "perc: line 4: later\n"),
-    ("send Ann 96 1 160 616263\r\n", "perc: line 4: later\n"),
-    ("send Ann 64 0 0 -\n", "perc: line 4: later\n"),
-    ("send Ann 95 0 0 -\n", "perc: line 4: later\n"),
-    ("send Ann 128 0 0 -\n", "perc: line 4: later\n"),
-    ("send Ann 96 2 0 -\n", "perc: line 4: later\n"),
-    ("send Ann 96 1 4294967296 -\n", "perc: line 4: later\n"),
-    ("send Ann 96 1 -1 -\n", "perc: line 4: later\n"),
-    ("send Ann 96 1 +1 -\n", "perc: line 4: later\n"),
-    ("send Ann 96 1 0 6\n", "perc: line 4: later\n"),
-    ("send Ann 96 1 0 6g\n", "perc: line 4: later\n"),
-    ("send Ann 96 1 0 AA\n", "perc: line 4: later\n"),
-    ("send Ann 96 1 0\n", "perc: line 4: later\n"),
-    ("send Ann 96 1 0 - pad=4\n", "perc: line 4: later\n"),
-    ("send Zed 0 0 0 -\n", "perc: line 4: name\n"),
-    ("send Zed 72 0 0 -\n", "perc: line 4: later\n"),
-    ("deliver 1 Bob\n", "perc: line 4: datagram\n"),
-    ("deliver 1 Bob", "perc: line 4: datagram\n"),
-    ("deliver 0 Bob\n", "perc: line 4: datagram\n"),
-    ("deliver 4294967295 Bob\n", "perc: line 4: datagram\n"),
-    ("deliver 4294967296 Bob\n", "perc: line 4: later\n"),
-    ("deliver 1 Zed\n", "perc: line 4: name\n"),
-    ("deliver 01 Bob\n", "perc: line 4: later\n"),
-    ("deliver 1\n", "perc: line 4: later\n"),
-    ("forward Ann 1\n", "perc: line 4: later\n"),
-    ("leave Ann\n", "perc: line 4: later\n"),
-    ("# caf\u{e9}\n", "perc: line 4: later\n"),
-    ("# a\tb\n", "perc: line 4: later\n"),
-    ("#\r\n", "perc: line 4: later\n"),
-    ("# \u{7f}\n", "perc: line 4: later\n"),
-    ("\0\n", "perc: line 4: later\n"),
-    (" \n", "perc: line 4: later\n"),
+    (
+        "grant Ann 2 d3d3d3d3d3d3d3d3d3d3d3d3d3d3d3d3\n",
+        "perc: line 5: name\n",
+    ),
+    (
+        "rekey Cat d3d3d3d3d3d3d3d3d3d3d3d3d3d3d3d3\n",
+        "perc: line 5: name\n",
+    ),
+    ("rekey Ann d3d3\n", "perc: line 5: form\n"),
+    ("send Ann 096 1 160 616263\n", "perc: line 5: form\n"),
+    ("send Ann 96 1 160  616263\n", "perc: line 5: form\n"),
+    (" send Ann 96 1 160 616263\n", "perc: line 5: form\n"),
+    ("send Ann 96\t1 160 616263\n", "perc: line 5: form\n"),
+    ("send Ann 96 1 160 616263\r\n", "perc: line 5: form\n"),
+    ("send Ann 64 0 0 -\n", "perc: line 5: form\n"),
+    ("send Ann 96 1 4294967296 -\n", "perc: line 5: form\n"),
+    ("send Ann 96 1 0 AA\n", "perc: line 5: form\n"),
+    ("send Zed 0 0 0 -\n", "perc: line 5: name\n"),
+    ("send Zed 72 0 0 -\n", "perc: line 5: form\n"),
+    ("forward Ann 1\n", "perc: line 5: datagram\n"),
+    ("forward Zed 1\n", "perc: line 5: name\n"),
+    ("forward Ann 1 to=Zed\n", "perc: line 5: name\n"),
+    ("deliver 1 Bob\n", "perc: line 5: datagram\n"),
+    ("deliver 1 Bob", "perc: line 5: datagram\n"),
+    ("deliver 0 Bob\n", "perc: line 5: datagram\n"),
+    ("deliver 4294967295 Bob\n", "perc: line 5: datagram\n"),
+    ("deliver 4294967296 Bob\n", "perc: line 5: form\n"),
+    ("deliver 1 Zed\n", "perc: line 5: name\n"),
+    ("deliver 01 Bob\n", "perc: line 5: form\n"),
+    ("inject 00\n", "perc: line 5: later\n"),
+    ("alter 1 0 00\n", "perc: line 5: later\n"),
+    ("rtcp Ann 80c8000000000000\n", "perc: line 5: later\n"),
+    ("# caf\u{e9}\n", "perc: line 5: form\n"),
+    ("#\r\n", "perc: line 5: form\n"),
+    ("\0\n", "perc: line 5: form\n"),
+    (" \n", "perc: line 5: form\n"),
 ];
 
 // The lines end the script with this error text, and the opening is reported.
@@ -164,36 +157,18 @@ fn one_reason_for_each_line(rt: HostRuntime) -> Result<(), Fail> {
 }
 
 // Whole scripts with their status, report and error text.
-const SCRIPTS: [(&str, u8, &str, &str); 10] = [
+const SCRIPTS: [(&str, u8, &str, &str); 7] = [
     ("", 0, "", ""),
     ("# nothing here\n\n#", 0, "", ""),
-    ("conference clear", 0, "", ""),
-    (
-        "join Ann 11111111 1 - - -\n",
-        2,
-        "",
-        "perc: line 1: order\n",
-    ),
+    ("conference 0009", 0, "", ""),
+    ("conference 000a", 2, "", "perc: line 1: later\n"),
     ("send Ann 0 0 0 -\n", 2, "", "perc: line 1: order\n"),
-    ("deliver 1 Bob\n", 2, "", "perc: line 1: order\n"),
-    ("send Ann 72 0 0 -\n", 2, "", "perc: line 1: later\n"),
+    ("send Ann 72 0 0 -\n", 2, "", "perc: line 1: form\n"),
     (
-        "# first\nconference clear\nconference clear\n",
+        "# first\nconference 0009\nconference 0009\n",
         2,
         "",
         "perc: line 3: order\n",
-    ),
-    (
-        "conference clear\njoin Ann 11111111 65535 - - -\njoin Bob 22222222 2000 - - -\nsend Ann 0 0 0 -\nsend Ann 0 0 1 -\ndeliver 2 Bob\ndeliver 1 Bob\n",
-        0,
-        "joined Ann 00000000-0000-0000-0000-000000000001\njoined Bob 00000000-0000-0000-0000-000000000002\nwire 1 up Ann 8000ffff0000000011111111\nwire 2 up Ann 800000000000000111111111\naccept 2 Bob Ann 2 0 0 0 1 -\nrefuse 1 Bob inner-old\n",
-        "",
-    ),
-    (
-        "conference clear\njoin Ann 11111111 1000 - - -\njoin Bob 22222222 2000 - - -\nsend Ann 96 1 160 616263\nforward Ann 1\ndeliver 1 Bob\n",
-        2,
-        "joined Ann 00000000-0000-0000-0000-000000000001\njoined Bob 00000000-0000-0000-0000-000000000002\nwire 1 up Ann 80e003e8000000a011111111616263\n",
-        "perc: line 5: later\n",
     ),
 ];
 
@@ -239,77 +214,30 @@ fn comes_to(
 
 // A head, and a comment of that many octets.
 fn with_comment(alloc: Global, length: usize) -> Result<Vec<u8>, AllocError> {
-    let mut script = joined(alloc, &["conference clear\n#"])?;
+    let mut script = joined(alloc, &["conference 0009\n#"])?;
     for _ in 1..length {
         script.push(b'a')?;
     }
     Ok(script)
 }
 
-// A head, and joins of that many members.
-fn with_members(alloc: Global, count: u32) -> Result<Vec<u8>, AllocError> {
-    let mut script = joined(alloc, &["conference clear\n"])?;
-    for member in 0..count {
-        let line = format!(in alloc; "join N{member} {member:08x} 0 - - -\n")?;
-        script.extend_from_slice(line.as_bytes())?;
-    }
-    Ok(script)
-}
-
-// A head, a join, and that many sends.
-fn with_sends(alloc: Global, count: u32) -> Result<Vec<u8>, AllocError> {
-    let mut script = joined(
-        alloc,
-        &["conference clear\njoin Ann 11111111 40000 - - -\n"],
-    )?;
-    for _ in 0..count {
-        script.extend_from_slice(b"send Ann 0 0 0 -\n")?;
-    }
-    Ok(script)
-}
-
-// A line at its greatest length and one octet past it; the 65th member; the last send of one name and one more.
+// A line at its greatest length and one octet past it.
 #[test]
 fn limits(rt: HostRuntime) -> Result<(), Fail> {
     let alloc = rt.alloc();
     comes_to(&rt, alloc, &with_comment(alloc, 8192)?, 0, "")?;
-    comes_to(
-        &rt,
-        alloc,
-        &with_comment(alloc, 8193)?,
-        2,
-        "perc: line 2: long\n",
-    )?;
-    comes_to(
-        &rt,
-        alloc,
-        &with_comment(alloc, 20000)?,
-        2,
-        "perc: line 2: long\n",
-    )?;
-    comes_to(&rt, alloc, &with_members(alloc, 64)?, 0, "")?;
-    comes_to(
-        &rt,
-        alloc,
-        &with_members(alloc, 65)?,
-        2,
-        "perc: line 66: limit\n",
-    )?;
-    comes_to(&rt, alloc, &with_sends(alloc, 32768)?, 0, "")?;
-    comes_to(
-        &rt,
-        alloc,
-        &with_sends(alloc, 32769)?,
-        2,
-        "perc: line 32771: limit\n",
-    )
+    let long = with_comment(alloc, 8193)?;
+    comes_to(&rt, alloc, &long, 2, "perc: line 2: long\n")?;
+    let longer = with_comment(alloc, 20000)?;
+    comes_to(&rt, alloc, &longer, 2, "perc: line 2: long\n")
 }
 
-const SCRIPT: &str =
-    "conference clear\njoin Ann 11111111 1000 - - -\njoin Bob 22222222 2000 - - -\nsend Ann 96 1 160 616263\ndeliver 1 Bob\ndeliver 1 Bob\ndeliver 1 Ann\n";
+const SENT: &str =
+    "send Ann 96 1 160 616263\nforward Ann 1 pt=100 shift=5 marker=0\ndeliver 2 Bob\ndeliver 2 Bob\ndeliver 1 Ann\n";
 
-const REPORT: &str =
-    "joined Ann 00000000-0000-0000-0000-000000000001\njoined Bob 00000000-0000-0000-0000-000000000002\nwire 1 up Ann 80e003e8000000a011111111616263\naccept 1 Bob Ann 1 96 1000 1 160 616263\nrefuse 1 Bob inner-repeated\nrefuse 1 Ann own-stream\n";
+// What those lines report. The datagrams come from an independent implementation.
+const TOLD: &str =
+    "wire 1 up Ann 80e003e8000000a011111111f2f3563309dd1044846eb835d57de8df942ab4c77ea1a3a1658a8e535dcf603b0e4b308c68d41866f136ad456652665196b934e253b5e7fc8dfbdab81c923b54034c60e99cc79d23165bf7a200010000002f02\nwire 2 down Bob 806403ed000000a01111111145833f981fab824f80de7e67aff265e6e7e0961010c87b33c83ae927fb94093836e1d86065926968d41866f136ad456652665196b934e253b5e7fc8dfbdab81c923b54034c60e99cc79d23165bf7a200010000002f02\naccept 2 Bob Ann 1 96 1000 1 160 616263\nrefuse 2 Bob outer-repeated\nrefuse 1 Ann own-stream\n";
 
 // With these failing calls the script has this status and error text, and what is written begins its report.
 fn fails_so(
@@ -319,9 +247,11 @@ fn fails_so(
     status: u8,
     error: &str,
 ) -> Result<(), Fail> {
-    let got = replayed(alloc, SCRIPT.as_bytes(), 16, failing)?;
+    let script = joined(alloc, &[OPENING, SENT])?;
+    let report = joined(alloc, &[OPENED, TOLD])?;
+    let got = replayed(alloc, &script, 16, failing)?;
     assert_eq!(rt; got.status, Status(status));
-    assert!(rt; REPORT.as_bytes().starts_with(got.out.as_slice()));
+    assert!(rt; report.starts_with(got.out.as_slice()));
     assert_eq!(rt; got.err.as_slice(), error.as_bytes());
     Ok(())
 }
@@ -330,14 +260,16 @@ fn fails_so(
 #[test]
 fn each_call_fails(rt: HostRuntime) -> Result<(), Fail> {
     let alloc = rt.alloc();
-    let whole = replayed(alloc, SCRIPT.as_bytes(), 16, [&[], &[], &[]])?;
+    let script = joined(alloc, &[OPENING, SENT])?;
+    let report = joined(alloc, &[OPENED, TOLD])?;
+    let whole = replayed(alloc, &script, 16, [&[], &[], &[]])?;
     assert_eq!(rt; whole.status, Status(0));
-    assert_eq!(rt; whole.out.as_slice(), REPORT.as_bytes());
-    let reads = SCRIPT.len() as u64 / 16 + 2;
+    assert_eq!(rt; whole.out, report);
+    let reads = script.len() as u64 / 16 + 2;
     for call in 0..reads {
         fails_so(&rt, alloc, [&[call], &[], &[]], 3, "perc: read fault\n")?;
     }
-    for call in 0..6 {
+    for call in 0..8 {
         fails_so(&rt, alloc, [&[], &[call], &[]], 4, "perc: write fault\n")?;
     }
     fails_so(&rt, alloc, [&[3], &[], &[0]], 3, "")

@@ -1,20 +1,20 @@
 // The top call.
 ghost use Rattle.std.specs.Prelude.{◌≡◌, ◌≢◌, ◌≤◌, ◌⊎◌, ◌↔◌, ℕ, IsTrue, List, map, Some, IfSome, string_bytes};
 ghost use Rattle.perc_base.specs.Outside.{HasRisen};
-ghost use Rattle.perc_conference.specs.Replay.{Ends};
-ghost use Rattle.perc_conference.specs.declared.run.ReplayEnd.{ReplayEnd as End};
-ghost use Rattle.perc_app.specs.Status.{end_text, reason_text, status_of, usage_status, usage_text};
+ghost use Rattle.perc_replay.specs.Replay.{Ends};
+ghost use Rattle.perc_replay.specs.declared.run.ReplayEnd.{ReplayEnd as End};
+ghost use Rattle.perc_app.specs.Status.{end_text, foreign_text, status_of, usage_status, usage_text};
 ghost use Rattle.perc_base.specs.Written.{Tells};
 ghost use Rattle.perc_app.specs.Run.{Ended, HasNoFault, IsReplay, IsTrueReport};
 
 use super::write::write_pieces;
-use perc_base::{Sink, Source};
-use perc_conference::{ReplayEnd, replay};
-use perc_report::Reason;
+use perc_base::{Failed, Sink, Source};
+use perc_headline::laws;
+use perc_replay::{ReplayEnd, replay};
 use std::alloc::Global;
 
-/// The exit status of the program: 0 where all was done, 1 for words in no form, 2 for a script that is refused,
-/// 3 and 4 for a failed read or write, 6 where no memory was found.
+/// The exit status of the program: 0 where all was done, 1 for words in no form, 2 for a script that is refused, 3 and 4 for a failed read
+/// or write, 5 where something opens that nobody in the script made, 6 where no memory was found.
 #[derive(Clone, Copy, Debug, PartialEq, Eq)]
 pub struct Status(pub u8);
 
@@ -39,7 +39,8 @@ pub fn run<I: Source, O: Sink, E: Sink>(
         × Tells (E.written err.old) (E.written err.new) (end_text end) (E.fault_count err.old) (E.fault_count err.new) }
 
     // What was written begins the report of the input, in which each accept line names one earlier send, as it was sent,
-    // at most once for each member, and each genuine fresh packet is accepted.
+    // at most once for each member, and each genuine fresh packet is accepted; up to the first delivery in which something
+    // opens that nobody made, where the report ends.
     ensures headline { IsReplay (map string_bytes words.now) → IfSome (I.left input.old) (λ octets. IfSome (O.written out.old) (λ before.
         (after : List ℕ) × (O.written out.new ≡ Some after) × IsTrueReport octets before after)) }
 
@@ -47,8 +48,8 @@ pub fn run<I: Source, O: Sink, E: Sink>(
     ensures read_fault { result.0 ≡ 3 → HasRisen (I.fault_count input.old) (I.fault_count input.new) }
     ensures write_fault { result.0 ≡ 4 → HasRisen (O.fault_count out.old) (O.fault_count out.new) }
 
-    // Where no call on input and output fails, the script is run to its end or to the line that is refused, unless
-    // memory runs out.
+    // Where no call on input and output fails, the script is run to its end, or to the line that is refused or at which
+    // a datagram is foreign, unless memory runs out.
     ensures complete { IsReplay (map string_bytes words.now) → HasNoFault (I.fault_count input.old) (I.fault_count input.new)
         → HasNoFault (O.fault_count out.old) (O.fault_count out.new)
         → IfSome (I.left input.old) (λ octets. IfSome (O.written out.old) (λ before. (after : List ℕ) × (O.written out.new ≡ Some after)
@@ -58,9 +59,15 @@ pub fn run<I: Source, O: Sink, E: Sink>(
         let _ = write_pieces(err, &[USAGE]);
         return Status(1);
     }
+    // What every report is worth.
+    laws::accepted_once_as_sent();
+    laws::one_run();
+    laws::ends_at_foreign();
+    laws::each_nonce_once();
+    laws::turn_by_turn();
     let end = replay(alloc, input, out);
-    tell(err, end);
-    Status(status_number(end))
+    tell(err, &end);
+    Status(status_number(&end))
 }
 
 const USAGE: &[u8] = b"perc: usage: replay, make, endpoint, distributor, keydist\n";
@@ -76,21 +83,25 @@ fn is_replay(words: &[String]) -> bool
 }
 
 // The number of an end.
-fn status_number(end: ReplayEnd) -> u8
-    ensures { result ≡ status_of end }
+fn status_number(end: &ReplayEnd) -> u8
+    ensures { result ≡ status_of end.now }
 {
     match end {
         ReplayEnd::Done(_) => 0,
         ReplayEnd::Script { line: _, reason: _ } => 2,
         ReplayEnd::ReadFault => 3,
         ReplayEnd::WriteFault => 4,
+        ReplayEnd::Foreign {
+            line: _,
+            endpoint: _,
+        } => 5,
         ReplayEnd::Memory => 6,
     }
 }
 
 // A fault of the error sink changes nothing.
-fn tell<E: Sink>(err: &mut E, end: ReplayEnd)
-    ensures { Tells (E.written err.old) (E.written err.new) (end_text end) (E.fault_count err.old) (E.fault_count err.new) }
+fn tell<E: Sink>(err: &mut E, end: &ReplayEnd)
+    ensures { Tells (E.written err.old) (E.written err.new) (end_text end.now) (E.fault_count err.old) (E.fault_count err.new) }
 {
     let _ = match end {
         ReplayEnd::Done(_) => Ok(()),
@@ -100,28 +111,33 @@ fn tell<E: Sink>(err: &mut E, end: ReplayEnd)
                 err,
                 &[
                     b"perc: line ",
-                    digits.format(line).as_bytes(),
+                    digits.format(*line).as_bytes(),
                     b": ",
-                    reason_word(reason).as_bytes(),
+                    reason.text(),
                     b"\n",
                 ],
             )
         }
+        ReplayEnd::Foreign { line, endpoint } => tell_foreign(err, *line, endpoint.as_bytes()),
         ReplayEnd::ReadFault => write_pieces(err, &[b"perc: read fault\n"]),
         ReplayEnd::WriteFault => write_pieces(err, &[b"perc: write fault\n"]),
         ReplayEnd::Memory => write_pieces(err, &[b"perc: memory\n"]),
     };
 }
 
-fn reason_word(reason: Reason) -> &'static str
-    ensures { result.now ≡ reason_text reason }
+// Tells of a line at which a datagram is foreign at the member of this name.
+fn tell_foreign<E: Sink>(err: &mut E, line: u32, name: &[u8]) -> Result<(), Failed>
+    ensures { Tells (E.written err.old) (E.written err.new) (foreign_text line name.now) (E.fault_count err.old) (E.fault_count err.new) }
 {
-    match reason {
-        Reason::Long => "long",
-        Reason::Later => "later",
-        Reason::Order => "order",
-        Reason::Name => "name",
-        Reason::Datagram => "datagram",
-        Reason::Limit => "limit",
-    }
+    let mut digits = itoa::Buffer::new();
+    write_pieces(
+        err,
+        &[
+            b"perc: line ",
+            digits.format(line).as_bytes(),
+            b": foreign tag or key at ",
+            name,
+            b"\n",
+        ],
+    )
 }

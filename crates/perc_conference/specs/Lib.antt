@@ -1,5 +1,0 @@
-pub mod Hearing
-pub mod Places
-pub mod Mirror
-pub mod Steps
-pub mod Replay

@@ -1,0 +1,10 @@
+pub mod Changing
+pub mod Entering
+pub mod Issued
+pub mod Issuing
+pub mod Leaving
+pub mod Lists
+pub mod Places
+pub mod Sends
+pub mod Taking
+pub mod Turning

@@ -1,0 +1,5 @@
+pub mod Receiving
+pub mod Rows
+pub mod Held
+pub mod Turning
+pub mod Parts

@@ -1,0 +1,11 @@
+pub mod Lists
+pub mod Lookups
+pub mod Reporting
+pub mod Sending
+pub mod Looping
+pub mod Kept
+pub mod Making
+pub mod Choosing
+pub mod Taking
+pub mod Forwarded
+pub mod Turns

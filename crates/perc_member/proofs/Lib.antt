@@ -1,0 +1,5 @@
+pub mod Keys
+mod Packets
+mod Opened
+mod Sent
+mod Started

@@ -1,0 +1,8 @@
+mod Growth
+mod Starting
+mod Saying
+mod Turning
+mod LineFeeds
+mod Stepping
+mod Running
+pub mod Beginnings

@@ -1,0 +1,3 @@
+pub mod Steps
+pub mod Replay
+pub mod Running

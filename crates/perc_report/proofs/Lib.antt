@@ -1,8 +1,0 @@
-pub mod ScriptLaws
-mod Lookups
-mod Streams
-mod Outcomes
-mod Members
-mod Turns
-pub mod Runs
-pub mod Said

@@ -1,8 +1,0 @@
-mod Again
-mod Appended
-mod Fields
-mod Lines
-mod Numerals
-mod Spelled
-mod Split
-mod Told

@@ -1,5 +1,0 @@
-pub mod Digits
-pub mod Growth
-pub mod Padded
-pub mod View
-pub mod Words

@@ -1,0 +1,9 @@
+pub mod Finding
+pub mod Records
+pub mod Rows
+pub mod Packets
+pub mod Wraps
+pub mod Carried
+pub mod Keys
+pub mod Kept
+pub mod Sending

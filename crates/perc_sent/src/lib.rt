@@ -1,0 +1,9 @@
+//! The table of what was sent, read from the members and the datagrams of a conference script: whose packet opened, and whether anybody
+//! made what opened.
+#![tactic(auto)]
+
+mod table;
+#[cfg(test)]
+mod tests;
+
+pub use table::{Question, Sent, Table};
