@@ -1,16 +1,14 @@
 -- Messages that a decoder gives, and the run over them.
-use Rattle.std.specs.List.{flat_map, All}
-use Rattle.std.specs.Prelude.{Option, Some, None, IfSome, IsTrue, OnErr, Result, Ok, Err}
-use Rattle.std.proofs.Common.{◌≡◌, ℕ, ◌+◌, ◌<◌, ◌≤◌, Bool, true, false, cond, List, [], ◌∷◌, ◌++◌, length, map, inl, inr, refl, sym, ap, subst, ◌∙◌, add-zero, append-nil, append_assoc, arith}
-use Rattle.std.proofs.lemmas.Bool.{cond-true, cond-false}
+use Rattle.std.specs.List.{flat_map}
+use Rattle.std.specs.Prelude.{Option, Some, None, IfSome, IsTrue, Result, Ok, Err}
+use Rattle.std.proofs.Common.{◌≡◌, ℕ, ◌+◌, ◌<◌, Bool, false, List, [], ◌∷◌, ◌++◌, length, map, inl, inr, refl, sym, ap, subst, ◌∙◌, add-zero, append-nil, arith}
 use Rattle.std.proofs.lemmas.List.{length-append}
-use Rattle.std.proofs.lemmas.List.Elements.{All-nil, All-cons, All-append}
-use Rattle.std.proofs.lemmas.Grind.{flat_map-append}
+use Rattle.std.proofs.lemmas.List.Elements.{All-nil, All-cons}
 use Rattle.perc_tunnel.specs.declared.decoder.TunnelFault.{TunnelFault}
 use Rattle.perc_tunnel.specs.declared.message.Message.{Message}
 use Rattle.perc_tunnel.specs.Decoding.{Decoding, Decodes, IsFault}
-use Rattle.perc_tunnel.specs.Message.{TunnelMessage, SupportedProfiles, UnsupportedVersion, MediaKeys, TunneledDtls, EndpointDisconnect, IsMessage, spelling}
-use Rattle.perc_tunnel.specs.Stream.{BeginsWithMessage, HasReason, IsPart}
+use Rattle.perc_tunnel.specs.Message.{TunnelMessage, IsMessage, spelling}
+use Rattle.perc_tunnel.specs.Stream.{IsPart}
 use Rattle.perc_tunnel.specs.Told.{answered, content_of}
 use Rattle.perc_tunnel.proofs.Written.{spelling-length}
 use Rattle.perc_keeper.specs.Lists.{Lists}
@@ -19,10 +17,9 @@ use Rattle.perc_keydist.specs.declared.fault.KdFault.{KdFault}
 use Rattle.perc_keydist.specs.declared.fault.KdFault.TheVariants as fault
 use Rattle.perc_keydist.specs.Answers.{Answers}
 use Rattle.perc_keydist.specs.Causes.{is_of_stream, is_stated, told_as}
-use Rattle.perc_keydist.specs.Desks.{Hears, IsDone, IsRefused, accepted_at, count_of, state_at}
-use Rattle.perc_keydist.specs.Distributing as spec
-use Rattle.perc_keydist.specs.Distributing.{Event, Heard, Fault, State, Turn, before, hear, quiet, run_of, step}
-use Rattle.perc_keydist.specs.Feeding.{Decoded, Feeds, IsEnded, IsWrong, Ran, Reads, Stops, count_next}
+use Rattle.perc_keydist.specs.Desks.{IsDone, IsRefused, accepted_at, count_of, state_at}
+use Rattle.perc_keydist.specs.Distributing.{Heard, Fault, State, Turn, before, hear, quiet, run_of, step}
+use Rattle.perc_keydist.specs.Feeding.{Feeds, IsEnded, Reads, Stops, count_next}
 
 -- ---- one message
 

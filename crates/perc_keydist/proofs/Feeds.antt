@@ -1,10 +1,9 @@
 -- A feed, as the calls of a key distributor see it.
-use Rattle.std.specs.List.{flat_map}
-use Rattle.std.specs.Prelude.{Option, Some, None, OnOk, Result, Ok, Err}
+use Rattle.std.specs.Prelude.{Option, OnOk, Result, Ok, Err}
 use Rattle.std.specs.Result.{result_err}
-use Rattle.std.proofs.Common.{◌≡◌, ℕ, ◌<◌, List, [], ◌∷◌, ◌++◌, refl, sym, subst, ◌∙◌, zero-add, arith}
+use Rattle.std.proofs.Common.{◌≡◌, ℕ, List, [], ◌++◌, refl, sym, subst, ◌∙◌, zero-add, arith}
 use Rattle.perc_tunnel.specs.Decoding.{Decoding}
-use Rattle.perc_tunnel.specs.Message.{TunnelMessage, UnsupportedVersion, body, spelling}
+use Rattle.perc_tunnel.specs.Message.{TunnelMessage, UnsupportedVersion, spelling}
 use Rattle.perc_tunnel.specs.Stream.{IsPart}
 use Rattle.perc_keeper.specs.Lists.{Lists}
 use Rattle.perc_keydist.specs.declared.desk.Desk.{Desk}

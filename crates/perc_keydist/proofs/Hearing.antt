@@ -1,12 +1,11 @@
 -- What a desk makes of messages, as turns.
-use Rattle.std.specs.List.{flat_map, list_any}
 use Rattle.std.specs.Option.{option_map}
-use Rattle.std.specs.Prelude.{Option, Some, None, IfSome, IsTrue, Result, Ok, Err, filter, is_some, not}
-use Rattle.std.proofs.Common.{◌≡◌, ℕ, ◌+◌, ◌||◌, Bool, true, false, cond, List, [], ◌∷◌, ◌++◌, refl, sym, ap, subst, ◌∙◌, add-zero, append-nil, arith}
+use Rattle.std.specs.Prelude.{Option, Some, None, IfSome, Result, Ok, Err, is_some, not}
+use Rattle.std.proofs.Common.{◌≡◌, ℕ, ◌+◌, ◌||◌, Bool, true, false, cond, List, [], ◌∷◌, refl, sym, ap, subst, ◌∙◌, add-zero, append-nil}
 use Rattle.std.proofs.lemmas.Bool.{cond-true, cond-false}
 use Rattle.perc_base.specs.declared.profile.Profile.{Profile}
 use Rattle.perc_tunnel.specs.declared.message.MediaKeys.{MediaKeys}
-use Rattle.perc_tunnel.specs.Message.{TunnelMessage, TunneledDtls, EndpointDisconnect, spelling}
+use Rattle.perc_tunnel.specs.Message.{TunnelMessage, TunneledDtls, EndpointDisconnect}
 use Rattle.perc_keeper.specs.Lists.{Lists, is_member, is_of, without, without_member}
 use Rattle.perc_keydist.specs.declared.fault.KdFault.{KdFault}
 use Rattle.perc_keydist.specs.declared.handshake.Hello.{Hello}

@@ -1,8 +1,8 @@
 -- An association that joins: a member again, or a stranger.
-use Rattle.std.specs.List.{flat_map, find, list_any}
-use Rattle.std.specs.Prelude.{Option, Some, None, IfSome, IfErr, IfOk, IsTrue, OnErr, OnOk, Result, Ok, Err, nat_le}
+use Rattle.std.specs.List.{flat_map}
+use Rattle.std.specs.Prelude.{Option, Some, None, IfSome, IfErr, IsTrue, OnErr, OnOk, Result, Ok, Err, nat_le}
 use Rattle.std.proofs.Common.{◌≡◌, ℕ, ◌<◌, ◌||◌, Bool, true, false, cond, List, [], ◌∷◌, ◌++◌, length, refl, sym, ap, subst, ◌∙◌, arith}
-use Rattle.std.proofs.lemmas.Bool.{cond-true, cond-false}
+use Rattle.std.proofs.lemmas.Bool.{cond-false}
 use Rattle.std.proofs.lemmas.Bool.Decides.{nat_tests}
 use Rattle.perc_base.specs.declared.profile.Profile.{Profile}
 use Rattle.perc_ekt.specs.declared.record.EktKeyRecord.{EktKeyRecord}
@@ -64,7 +64,8 @@ pub again : {X : Type 0} (a : Answers) (k : MediaKeys) (l : Lists) (randoms : Li
     → IfErr result (λ e. IsTrue (is_of_replies e)) → Replied (welcoming_again a k l randoms (newest l.issued)) result before after lists (Some randoms)
 again a k l randoms granted result before after lists is known ok err kinds =
     subst (λ (o : Option EktKeyRecord). Replied (welcoming_again a k l randoms o) result before after lists (Some randoms)) (sym is)
-    (appended (welcoming_again a k l randoms (Some granted)) (welcomed a k granted) result before after lists (Some randoms) (record { answer_is = refl; lists_is = known; left_is = refl }) ok err kinds)
+    (appended (welcoming_again a k l randoms (Some granted)) (welcomed a k granted) result before after lists (Some randoms)
+    (record { answer_is = refl; lists_is = known; left_is = refl }) ok err kinds)
 
 -- ---- a stranger
 

@@ -2,7 +2,6 @@
 use Rattle.std.specs.List.{flat_map}
 use Rattle.std.specs.Prelude.{Option, Some, None, Result, Ok, Err}
 use Rattle.std.proofs.Common.{◌≡◌, ℕ, ◌+◌, Bool, true, false, cond, eqb, List, [], ◌∷◌, ◌++◌, length, map, refl, sym, ap, subst, ◌∙◌, add-zero, append-nil, append_assoc, arith}
-use Rattle.perc_tunnel.specs.Decoding.{Decoding}
 use Rattle.perc_tunnel.specs.Message.{TunnelMessage, SupportedProfiles, UnsupportedVersion, MediaKeys, TunneledDtls, EndpointDisconnect, spelling}
 use Rattle.perc_tunnel.proofs.Streams.{one_stream}
 use Rattle.perc_keeper.specs.Lists.{Lists, is_member, without_member}
@@ -13,7 +12,7 @@ use Rattle.perc_keydist.specs.Desks.{IsDone}
 use Rattle.perc_keydist.specs.Distributing as spec
 use Rattle.perc_keydist.specs.Distributing.{Heard, Fault, Replying, State, Turn, before, hear, run_of, step}
 use Rattle.perc_keydist.specs.Feeding.{IsEnded, Reads}
-use Rattle.perc_keydist.specs.KeyDistributor.{Begins, EndsAt, FeedsSo, IsTaken, KeyDistributor, Replies, Takes, heard, state_of}
+use Rattle.perc_keydist.specs.KeyDistributor.{Begins, EndsAt, IsTaken, KeyDistributor, Replies, Takes, heard, state_of}
 use Rattle.perc_keydist.specs.Pieces.{OneOutcome, TwoFeedsAreOne, added}
 use Rattle.perc_keydist.proofs.Running.{both_out, joined, reads_on, run_both, run_profile}
 
@@ -153,8 +152,8 @@ module _ (a : Answers) (k between : KeyDistributor) (l : Lists) (drawn : List �
       ∙ ap (λ (t : Turn). joined first t)
       (ap (λ (s : State). run_of a s (map Heard more) first.randoms) state_is ∙ run_by a n (state_of between first.state.lists) more first.randoms)
 
-  replies_both : (result : Result ℕ KdFault) (after : List ℕ) (accepted : Option (List ℕ)) (lists : Option Lists) (randoms : Option (List ℕ)) → Replies second result written after accepted lists randoms
-      → Replies (heard a k l (messages ++ more) drawn) (added n result) out after accepted lists randoms
+  replies_both : (result : Result ℕ KdFault) (after : List ℕ) (accepted : Option (List ℕ)) (lists : Option Lists) (randoms : Option (List ℕ))
+      → Replies second result written after accepted lists randoms → Replies (heard a k l (messages ++ more) drawn) (added n result) out after accepted lists randoms
   replies_both (Ok left) after accepted lists randoms r =
       subst (λ (t : Turn). IsDone t out after accepted lists randoms (n + left)) (sym both_is) (record {
         no_fault = r.no_fault;

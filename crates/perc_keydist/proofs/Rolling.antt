@@ -1,9 +1,8 @@
 -- The EKT key rolled: the next is issued, and each member is sent it.
 use Rattle.std.specs.List.{flat_map}
 use Rattle.std.specs.Prelude.{Option, Some, None, IfSome, OnErr, OnOk, Result, Ok, Err, is_some, nat_le}
-use Rattle.std.proofs.Common.{◌≡◌, ℕ, ◌+◌, ◌<◌, ◌≤◌, Bool, true, false, cond, List, [], ◌∷◌, ◌++◌, length, map, take, drop, get_or, suc, refl, sym, ap, subst, ◌∙◌, append_assoc, add-one, arith}
+use Rattle.std.proofs.Common.{◌≡◌, ℕ, ◌+◌, ◌<◌, ◌≤◌, Bool, true, false, cond, List, [], ◌∷◌, ◌++◌, length, take, drop, get_or, refl, sym, ap, subst, ◌∙◌, append_assoc, add-one, arith}
 use Rattle.std.proofs.Math.Seq.{drop-cons, take-length}
-use Rattle.std.proofs.lemmas.Bool.{cases_Bool, cond-true, cond-false}
 use Rattle.std.specs.Option.{option_map_or}
 use Rattle.std.proofs.lemmas.List.{length-take, take-append-drop, take-append-le, take_at}
 use Rattle.perc_base.specs.Profile.{key_length}
@@ -15,11 +14,9 @@ use Rattle.perc_keeper.specs.Lists.{Lists, names_of, newest, spi_of, with_issued
 use Rattle.perc_keeper.proofs.KeptLaws.{newest_pushed}
 use Rattle.perc_keydist.specs.declared.fault.KdFault.{KdFault}
 use Rattle.perc_keydist.specs.Answers.{Answers}
-use Rattle.perc_keydist.specs.Desks.{IsRefused}
-use Rattle.perc_keydist.specs.Distributing as spec
 use Rattle.perc_keydist.specs.Distributing.{Fault, SpiSpent, KeyRepeated, Part, Rolled, State, Turn, behind_pair, drawn_pair, drawn_record, issue, issuing, next_spi, renewals, rolling, step}
 use Rattle.perc_keydist.specs.Gives.{Gives, renewals_to}
-use Rattle.perc_keydist.specs.KeyDistributor.{IsRolled, Rolls}
+use Rattle.perc_keydist.specs.KeyDistributor.{IsRolled}
 
 -- ---- renewals
 

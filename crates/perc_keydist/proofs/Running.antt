@@ -1,6 +1,6 @@
 -- Runs one after another: over messages, and over more behind them.
-use Rattle.std.specs.List.{flat_map, All}
-use Rattle.std.specs.Prelude.{Option, Some, None, Result, Ok, Err, is_some, nat_le}
+use Rattle.std.specs.List.{flat_map}
+use Rattle.std.specs.Prelude.{Option, Some, None, Result, Ok, Err}
 use Rattle.std.proofs.Common.{◌≡◌, ℕ, ◌+◌, ◌≤◌, Bool, true, false, cond, eqb, List, [], ◌∷◌, ◌++◌, length, map, take, drop, refl, sym, ap, subst, ◌∙◌, append-nil, append_assoc, add-zero, add_assoc, arith}
 use Rattle.std.specs.Int.{from_bool}
 use Rattle.std.proofs.lemmas.List.{length-append, take-append-drop}
@@ -13,12 +13,11 @@ use Rattle.perc_keeper.specs.Lists.{Lists, is_member, without_member}
 use Rattle.perc_keydist.specs.declared.desk.Desk.{Desk}
 use Rattle.perc_keydist.specs.declared.fault.KdFault.{KdFault}
 use Rattle.perc_keydist.specs.Answers.{Answers}
-use Rattle.perc_keydist.specs.Causes.{told_as}
 use Rattle.perc_keydist.specs.Desks.{IsDone, accepted_at, count_of, state_at}
 use Rattle.perc_keydist.specs.Distributing as spec
 use Rattle.perc_keydist.specs.Distributing.{Event, Heard, Fault, Part, Replying, State, Turn, before, hear, run_of, step}
 use Rattle.perc_keydist.proofs.Stopping.{stops_on}
-use Rattle.perc_keydist.specs.Feeding.{Carries, Decoded, Feeds, IsEnded, Ran, Reads, Stops, itself}
+use Rattle.perc_keydist.specs.Feeding.{Carries, Feeds, IsEnded, Reads, itself}
 
 -- ---- a turn keeps the profile
 

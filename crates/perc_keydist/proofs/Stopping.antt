@@ -1,7 +1,6 @@
 -- Octets that go wrong, and more behind them; and how long a part of a message is.
-use Rattle.std.specs.List.{flat_map, All}
-use Rattle.std.specs.Prelude.{Option, Some, None}
-use Rattle.std.proofs.Common.{◌≡◌, ℕ, ◌+◌, ◌-◌, ◌*◌, ◌^◌, ◌<◌, ◌≤◌, ◌⊎◌, min, List, [], ◌∷◌, ◌++◌, length, take, drop, inl, inr, ⊎_elim, refl, sym, ap, subst, ◌∙◌, append-nil, append_assoc, arith}
+use Rattle.std.specs.Prelude.{None}
+use Rattle.std.proofs.Common.{◌≡◌, ℕ, ◌+◌, ◌-◌, ◌^◌, ◌<◌, ◌≤◌, ◌⊎◌, min, List, [], ◌∷◌, ◌++◌, length, take, drop, inl, inr, ⊎_elim, refl, sym, ap, ◌∙◌, append_assoc, arith}
 use Rattle.std.proofs.lemmas.Bool.{cases_lt}
 use Rattle.std.proofs.lemmas.List.{length-append, length-drop, take_all, take-append-drop, take-append-le, take_at}
 use Rattle.byteorder.specs.Endian.{big_bytes}
@@ -11,12 +10,12 @@ use Rattle.perc_base.specs.declared.profile.Profile.TheVariants.{Aes128, Aes256}
 use Rattle.perc_tunnel.specs.declared.decoder.TunnelReason.{TunnelReason}
 use Rattle.perc_tunnel.specs.declared.decoder.TunnelReason.TheVariants.{Kind, Length, Body}
 use Rattle.perc_tunnel.specs.Decoding.{Decoding, taken}
-use Rattle.perc_tunnel.specs.Message.{TunnelMessage, SupportedProfiles, UnsupportedVersion, MediaKeys, TunneledDtls, EndpointDisconnect, IsMessage, body, body_length, message_length, spelling, type_of}
-use Rattle.perc_tunnel.specs.Stream.{BeginsLength, BeginsWithMessage, HasReason, IsKind, IsPart}
+use Rattle.perc_tunnel.specs.Message.{TunnelMessage, SupportedProfiles, UnsupportedVersion, MediaKeys, TunneledDtls, EndpointDisconnect, IsMessage, body, message_length, spelling}
+use Rattle.perc_tunnel.specs.Stream.{BeginsLength, BeginsWithMessage, HasReason, IsPart}
 use Rattle.perc_tunnel.proofs.Written.{body-length, spelling-length}
 use Rattle.perc_keydist.specs.declared.fault.KdFault.{KdFault}
 use Rattle.perc_keydist.specs.declared.fault.KdFault.TheVariants as fault
-use Rattle.perc_keydist.specs.Feeding.{IsWrong, Stops}
+use Rattle.perc_keydist.specs.Feeding.{Stops}
 
 -- ---- parts of messages
 

@@ -1,6 +1,6 @@
 -- What is read of a stream, and what was made of its messages, as far as it goes or up to a fault.
 use Rattle.std.specs.List.{flat_map, All}
-use Rattle.std.specs.Prelude.{◌≡◌, ℕ, ◌+◌, Bool, true, false, List, ◌++◌, length, map, Option, Some, None, Result, Ok, Err, IsTrue}
+use Rattle.std.specs.Prelude.{◌≡◌, ℕ, ◌+◌, Bool, List, ◌++◌, length, map, Option, Some, None, Result, Ok, Err, IsTrue}
 use Rattle.perc_tunnel.specs.declared.decoder.TunnelFault.{TunnelFault}
 use Rattle.perc_tunnel.specs.Decoding.{Decoding}
 use Rattle.perc_tunnel.specs.Message.{TunnelMessage, IsMessage, spelling}

@@ -13,7 +13,7 @@ use Rattle.perc_keeper.specs.Lists.{Lists, key_of, spi_of, with_issued, with_mem
 use Rattle.perc_keydist.specs.declared.fault.KdFault.{KdFault}
 use Rattle.perc_keydist.specs.Answers.{Answers}
 use Rattle.perc_keydist.specs.Causes.{told_as}
-use Rattle.perc_keydist.specs.Distributing.{Fault, SpiSpent, KeyRepeated, Part, Replying, behind_keys, behind_pair, drawn_keys, drawn_pair, next_spi, repeats}
+use Rattle.perc_keydist.specs.Distributing.{SpiSpent, KeyRepeated, Part, Replying, behind_keys, behind_pair, drawn_keys, drawn_pair, next_spi, repeats}
 
 -- The part of a turn ended so, with this kept and that left to be drawn. Where an object of the outside failed or memory is out,
 -- nothing is said.

@@ -47,7 +47,8 @@ pub fn admit<K: Keeper, R: Randoms>(
 ) -> Result<MediaKeys, KdFault>
     requires { (l : Lists) → K.lists keeper.old ≡ Some l → is_member l.members association.now ≡ false }
     ensures told { (l : Lists) (rs : List ℕ) → K.lists keeper.old ≡ Some l → R.left randoms.old ≡ Some rs
-        → Gives (spec.admitting l (spec.drawn_keys profile association.now rs) (spec.behind_keys profile rs)) result (K.lists keeper.new) (R.left randoms.new) }
+        → Gives (spec.admitting l (spec.drawn_keys profile association.now rs) (spec.behind_keys profile rs)) result
+        (K.lists keeper.new) (R.left randoms.new) }
     ensures right { IfOk result HasKeys }
     ensures keeper { Blames KdFault.Keeper (K.fault_count keeper.old) result (K.fault_count keeper.new) }
     ensures randoms { Blames KdFault.Random (R.fault_count randoms.old) result (R.fault_count randoms.new) }

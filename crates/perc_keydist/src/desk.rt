@@ -51,7 +51,8 @@ impl Desk {
         out: &mut Vec<u8>,
     ) -> Result<bool, KdFault>
         ensures told { (a : Answers) (l : Lists) (rs : List ℕ) (left : ℕ) → H.answers hand.old ≡ Some a → K.lists keeper.old ≡ Some l
-            → R.left randoms.old ≡ Some rs → Hears (spec.hear a (state_at self.old l left) rs (told.content_of message.now) (accepted_at self.old))
+            → R.left randoms.old ≡ Some rs
+            → Hears (spec.hear a (state_at self.old l left) rs (told.content_of message.now) (accepted_at self.old))
             count_of left result out.old.items out.new.items (accepted_at self.new) (K.lists keeper.new) (R.left randoms.new) }
         ensures refused { OnErr result (out.new.items ≡ out.old.items) }
         ensures profile { self.new.profile ≡ self.old.profile }
@@ -88,8 +89,8 @@ impl Desk {
         out: &mut Vec<u8>,
     ) -> Result<(), KdFault>
         ensures told { (a : Answers) (l : Lists) (rs : List ℕ) (left : ℕ)
-            → Hears (spec.hear a (state_at self.old l left) rs (tunnel.SupportedProfiles version (told.numbers_of profiles.now)) (accepted_at self.old))
-            nobody left result out.old.items out.new.items (accepted_at self.new) (Some l) (Some rs) }
+            → Hears (spec.hear a (state_at self.old l left) rs
+            (tunnel.SupportedProfiles version (told.numbers_of profiles.now)) (accepted_at self.old)) nobody left result out.old.items out.new.items (accepted_at self.new) (Some l) (Some rs) }
         ensures refused { OnErr result (out.new.items ≡ out.old.items) }
         ensures profile { self.new.profile ≡ self.old.profile }
         ensures kinds { IfErr result (λ e. IsTrue (is_of_offers e)) }
@@ -190,7 +191,8 @@ fn join<K: Keeper, H: Handshake, R: Randoms>(
     randoms: &mut R,
     out: &mut Vec<u8>,
 ) -> Result<(), KdFault>
-    ensures told { (a : Answers) (l : Lists) (rs : List ℕ) → H.answers hand.old ≡ Some a → K.lists keeper.old ≡ Some l → R.left randoms.old ≡ Some rs
+    ensures told { (a : Answers) (l : Lists) (rs : List ℕ) → H.answers hand.old ≡ Some a → K.lists keeper.old ≡ Some l
+        → R.left randoms.old ≡ Some rs
         → Replied (spec.join a profile association.now l rs) result out.old.items out.new.items (K.lists keeper.new) (R.left randoms.new) }
     ensures refused { OnErr result (out.new.items ≡ out.old.items) }
     ensures kept { H.answers hand.new ≡ H.answers hand.old }
@@ -215,7 +217,8 @@ fn welcome_again<K: Keeper, H: Handshake>(
 ) -> Result<(), KdFault>
     requires { HasKeys keys.now }
     ensures told { (a : Answers) (l : Lists) (rs : List ℕ) → H.answers hand.old ≡ Some a → K.lists keeper.old ≡ Some l
-        → Replied (spec.welcoming_again a keys.now l rs (newest l.issued)) result out.old.items out.new.items (K.lists keeper.new) (Some rs) }
+        → Replied (spec.welcoming_again a keys.now l rs (newest l.issued)) result out.old.items out.new.items
+        (K.lists keeper.new) (Some rs) }
     ensures refused { OnErr result (out.new.items ≡ out.old.items) }
     ensures kept { H.answers hand.new ≡ H.answers hand.old }
     ensures keeper { Blames KdFault.Keeper (K.fault_count keeper.old) result (K.fault_count keeper.new) }
@@ -239,8 +242,10 @@ fn join_stranger<K: Keeper, H: Handshake, R: Randoms>(
     out: &mut Vec<u8>,
 ) -> Result<(), KdFault>
     requires { (l : Lists) → K.lists keeper.old ≡ Some l → is_member l.members association.now ≡ false }
-    ensures told { (a : Answers) (l : Lists) (rs : List ℕ) → H.answers hand.old ≡ Some a → K.lists keeper.old ≡ Some l → R.left randoms.old ≡ Some rs
-        → Replied (spec.join_of a profile association.now l rs None) result out.old.items out.new.items (K.lists keeper.new) (R.left randoms.new) }
+    ensures told { (a : Answers) (l : Lists) (rs : List ℕ) → H.answers hand.old ≡ Some a → K.lists keeper.old ≡ Some l
+        → R.left randoms.old ≡ Some rs
+        → Replied (spec.join_of a profile association.now l rs None) result out.old.items out.new.items
+        (K.lists keeper.new) (R.left randoms.new) }
     ensures refused { OnErr result (out.new.items ≡ out.old.items) }
     ensures kept { H.answers hand.new ≡ H.answers hand.old }
     ensures keeper { Blames KdFault.Keeper (K.fault_count keeper.old) result (K.fault_count keeper.new) }

@@ -254,9 +254,10 @@ fn roll_on<K: Keeper, H: Handshake, R: Randoms>(
     randoms: &mut R,
     out: &mut Vec<u8>,
 ) -> Result<EktKeyRecord, KdFault>
-    ensures told { (a : Answers) (s : State) (drawn : List ℕ) → s.profile ≡ profile → H.answers hand.old ≡ Some a → K.lists keeper.old ≡ Some s.lists
-        → R.left randoms.old ≡ Some drawn
-        → Rolls (rolling a s (spec.issue profile s.lists drawn)) result out.old.items out.new.items (K.lists keeper.new) (R.left randoms.new) }
+    ensures told { (a : Answers) (s : State) (drawn : List ℕ) → s.profile ≡ profile → H.answers hand.old ≡ Some a
+        → K.lists keeper.old ≡ Some s.lists → R.left randoms.old ≡ Some drawn
+        → Rolls (rolling a s (spec.issue profile s.lists drawn)) result out.old.items out.new.items
+        (K.lists keeper.new) (R.left randoms.new) }
     ensures refused { OnErr result (out.new.items ≡ out.old.items) }
     ensures kept { H.answers hand.new ≡ H.answers hand.old }
     ensures keeper { Blames KdFault.Keeper (K.fault_count keeper.old) result (K.fault_count keeper.new) }

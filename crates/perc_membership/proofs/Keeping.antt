@@ -1,9 +1,9 @@
 -- Events of a key distributor, and what its replies bring to a publisher.
-use Rattle.std.specs.List.{flat_map, list_any}
+use Rattle.std.specs.List.{list_any}
 use Rattle.std.specs.Str.{bytes_eq}
 use Rattle.std.proofs.lemmas.Slice.Eq.{bytes_eq-Decides}
 use Rattle.std.specs.Prelude.{Option, Some, None, Result, Ok, Err, is_some, nat_le}
-use Rattle.std.proofs.Common.{◌≡◌, ℕ, ◌+◌, ◌<◌, ◌≤◌, ◌&&◌, Bool, true, false, cond, eqb, List, [], ◌∷◌, ◌++◌, length, map, ⊎_elim, refl, sym, ap, subst, ◌∙◌, append-nil, append_assoc, arith}
+use Rattle.std.proofs.Common.{◌≡◌, ℕ, ◌+◌, ◌<◌, ◌≤◌, ◌&&◌, Bool, true, false, cond, eqb, List, [], ◌∷◌, ◌++◌, length, map, ⊎_elim, refl, sym, ap, subst, ◌∙◌, append-nil, arith}
 use Rattle.std.proofs.lemmas.Bool.{cases_Bool, cond-true, cond-false}
 use Rattle.std.proofs.lemmas.List.{length-append}
 use Rattle.perc_base.specs.Profile.{key_length, profile_number}
@@ -18,7 +18,7 @@ use Rattle.perc_keyset.specs.declared.AddFault.{AddFault}
 use Rattle.perc_keyset.specs.declared.Op.{Op}
 use Rattle.perc_keyset.specs.declared.Op.TheVariants.{Add, Remove}
 use Rattle.perc_keyset.specs.Calls.{Call, AddCall, RemoveCall, after_call, after_calls}
-use Rattle.perc_keyset.specs.History.{adds, pairs_of}
+use Rattle.perc_keyset.specs.History.{adds}
 use Rattle.perc_keyset.specs.Publishing.{add_answer, after_add, most_adds, new_entry}
 use Rattle.perc_keyset.specs.Set.{fold_ops, holds}
 use Rattle.perc_keyset.proofs.SetLaws.{adds-append}
@@ -83,18 +83,23 @@ record AreKept (l : Lists) (part : Part EktKeyRecord) : Type 0 where
   pub given : part.lists.given ≡ l.given
   pub members : part.lists.members ≡ l.members
 
+-- an EKT key that is drawn, and what is issued of it
+abbrev issued_of : Profile → Lists → List ℕ → Bool → Part EktKeyRecord
+issued_of p l randoms again =
+    let r = spec.drawn_record p l.issued (spec.drawn_pair (key_length p) randoms) in
+    let rest = spec.behind_pair (key_length p) randoms in
+    cond again (record { answer = Err KeyRepeated; lists = l; randoms = rest }) (record { answer = Ok r; lists = with_issued r l; randoms = rest })
+
+issuing_kept : (p : Profile) (l : Lists) (randoms : List ℕ) (again : Bool) → AreKept l (issued_of p l randoms again)
+issuing_kept p l randoms true = record { given = refl; members = refl }
+issuing_kept p l randoms false = record { given = refl; members = refl }
+
 issue_kept : (p : Profile) (l : Lists) (randoms : List ℕ) → AreKept l (spec.issue p l randoms)
 issue_kept p l randoms = by_test (nat_le 65536 (spec.next_spi l.issued)) where
-  issuing_kept : (b : Bool)
-      → AreKept l (cond b (record { answer = Err KeyRepeated; lists = l; randoms = spec.behind_pair (key_length p) randoms })
-      (record { answer = Ok (spec.drawn_record p l.issued (spec.drawn_pair (key_length p) randoms)); lists = with_issued (spec.drawn_record p l.issued (spec.drawn_pair (key_length p) randoms)) l; randoms = spec.behind_pair (key_length p) randoms }))
-  issuing_kept true = record { given = refl; members = refl }
-  issuing_kept false = record { given = refl; members = refl }
-
   by_test : (b : Bool)
-      → AreKept l (cond b (record { answer = Err SpiSpent; lists = l; randoms = randoms }) (spec.issuing p l (spec.drawn_pair (key_length p) randoms) (spec.behind_pair (key_length p) randoms)))
+      → AreKept l (cond b (record { answer = Err SpiSpent; lists = l; randoms = randoms }) (issued_of p l randoms (is_some (spi_of l.issued (spec.drawn_pair (key_length p) randoms).key))))
   by_test true = record { given = refl; members = refl }
-  by_test false = issuing_kept (is_some (spi_of l.issued (spec.drawn_pair (key_length p) randoms).key))
+  by_test false = issuing_kept p l randoms (is_some (spi_of l.issued (spec.drawn_pair (key_length p) randoms).key))
 
 grant_kept : (p : Profile) (l : Lists) (randoms : List ℕ) (o : Option EktKeyRecord) → AreKept l (spec.granting p l randoms o)
 grant_kept p l randoms None = issue_kept p l randoms
@@ -140,7 +145,7 @@ found_again (j ∷ members) association k found = by_test (bytes_eq j.associatio
 
 module _ (first : List KeyAndSalt) (ops : List Op) (l : Lists) (m : Matches first ops l) (few : length (adds ops) < most_adds) where
   -- what a part that replies brings, where it brings no fault
-  Replies : Replying → Type 0
+  abbrev Replies : Replying → Type 0
   Replies part = (replies : List TunnelMessage) → part.answer ≡ Ok replies → Keeps first ops (adds_of replies) part.lists
 
   ok_same : (xs ys : List TunnelMessage) → ◌≡◌ {A = Result (List TunnelMessage) Fault} (Ok xs) (Ok ys) → xs ≡ ys
@@ -150,11 +155,9 @@ module _ (first : List KeyAndSalt) (ops : List Op) (l : Lists) (m : Matches firs
   no_replies f replies e = cc
 
   silent : (randoms : List ℕ) → Replies (spec.silent l randoms)
-  unfolding Replies
   silent randoms replies is = subst (λ (ms : List TunnelMessage). Keeps first ops (adds_of ms) l) (ok_same [] replies is) (idle first ops l m)
 
   again : (a : Answers) (k : keys.MediaKeys) (randoms : List ℕ) (o : Option EktKeyRecord) → member_of l.members k.association ≡ Some k → Replies (spec.welcoming_again a k l randoms o)
-  unfolding Replies
   again a k randoms None found replies is = silent randoms replies is
   again a k randoms (Some r) found replies is =
       let same = member_same first ops l m k found in
@@ -166,7 +169,6 @@ module _ (first : List KeyAndSalt) (ops : List Op) (l : Lists) (m : Matches firs
   -- the keys of a stranger are kept
   module _ (k : keys.MediaKeys) (now : Lists) (kept : Matches first ops now) (none : member_of now.members k.association ≡ None) (room : nat_le 64 (length now.members) ≡ false) where
     admitted : (a : Answers) (r : EktKeyRecord) (randoms : List ℕ) → Replies (spec.welcoming a r (spec.admitting now k randoms))
-    unfolding Replies
     admitted a r randoms = ⊎_elim (λ (old : repeats k now ≡ true). again_keys old) (λ (fresh : repeats k now ≡ false). new_keys fresh) (cases_Bool (repeats k now)) where
       again_keys : repeats k now ≡ true → (replies : List TunnelMessage) → (spec.welcoming a r (spec.admitting now k randoms)).answer ≡ Ok replies
           → Keeps first ops (adds_of replies) (spec.welcoming a r (spec.admitting now k randoms)).lists
@@ -189,7 +191,6 @@ module _ (first : List KeyAndSalt) (ops : List Op) (l : Lists) (m : Matches firs
 
   joining : (a : Answers) (p : Profile) (association : List ℕ) (granted : Part EktKeyRecord) → AreKept l granted → member_of l.members association ≡ None
       → nat_le 64 (length l.members) ≡ false → Replies (spec.joining a p association granted)
-  unfolding Replies
   joining a p association granted k none room = by_answer granted.answer where
     by_answer : (answer : Result EktKeyRecord Fault) → (replies : List TunnelMessage)
         → (spec.joining a p association (record { answer = answer; lists = granted.lists; randoms = granted.randoms })).answer ≡ Ok replies
@@ -201,7 +202,6 @@ module _ (first : List KeyAndSalt) (ops : List Op) (l : Lists) (m : Matches firs
 
   join : (a : Answers) (p : Profile) (association : List ℕ) (randoms : List ℕ) (o : Option keys.MediaKeys) → member_of l.members association ≡ o
       → Replies (spec.join_of a p association l randoms o)
-  unfolding Replies
   join a p association randoms (Some k) found = again a k randoms (newest l.issued) (found_again l.members association k found)
   join a p association randoms None none = ⊎_elim (λ (full : nat_le 64 (length l.members) ≡ true). no_room full) (λ (room : nat_le 64 (length l.members) ≡ false). with_room room)
       (cases_Bool (nat_le 64 (length l.members))) where
@@ -219,7 +219,6 @@ module _ (first : List KeyAndSalt) (ops : List Op) (l : Lists) (m : Matches firs
             (joining a p association (spec.grant p l randoms) (grant_kept p l randoms (newest l.issued)) none room)
 
   record_replies : (a : Answers) (p : Profile) (accepted association : List ℕ) (randoms : List ℕ) (h : Hello) → Replies (spec.record_heard a p accepted association l randoms h)
-  unfolding Replies
   record_replies a p accepted association randoms (Join number) = by_test (eqb number (profile_number p) && list_any (λ q. eqb q number) accepted) where
     by_test : (b : Bool) → (replies : List TunnelMessage) → (cond b (spec.join a p association l randoms) (spec.silent l randoms)).answer ≡ Ok replies
         → Keeps first ops (adds_of replies) (cond b (spec.join a p association l randoms) (spec.silent l randoms)).lists
@@ -230,16 +229,13 @@ module _ (first : List KeyAndSalt) (ops : List Op) (l : Lists) (m : Matches firs
   -- ---- turns
 
   -- what a turn brings, where it brings no fault
-  Goes : Event → Turn → Type 0
+  abbrev Goes : Event → Turn → Type 0
   Goes event t = t.fault ≡ None → Keeps first ops (calls_at event t.replies) t.state.lists
 
   replied : (s : State) (association octets : List ℕ) (part : Replying) → Replies part → Goes (Heard (TunneledDtls association octets)) (spec.turn_of s part)
-  unfolding Goes Replies
   replied s association octets part h = by_answer part.answer refl where
     by_answer : (answer : Result (List TunnelMessage) Fault) → part.answer ≡ answer
-        → (spec.turn_of s (record { answer = answer; lists = part.lists; randoms = part.randoms })).fault ≡ None
-        → Keeps first ops (calls_at (Heard (TunneledDtls association octets)) (spec.turn_of s (record { answer = answer; lists = part.lists; randoms = part.randoms })).replies)
-        (spec.turn_of s (record { answer = answer; lists = part.lists; randoms = part.randoms })).state.lists
+        → Goes (Heard (TunneledDtls association octets)) (spec.turn_of s (record { answer = answer; lists = part.lists; randoms = part.randoms }))
     by_answer (Ok replies) is = λ none. h replies is
     by_answer (Err fault) is = λ none. absurd (some_fault fault none)
 
@@ -249,14 +245,11 @@ no_renewal_adds a r (k ∷ members) = no_renewal_adds a r members
 
 module _ (first : List KeyAndSalt) (ops : List Op) (s : State) (m : Matches first ops s.lists) (few : length (adds ops) < most_adds) where
   heard_goes : (a : Answers) (randoms : List ℕ) (message : TunnelMessage) (o : Option (List ℕ)) → Goes first ops s.lists m few (Heard message) (hear a s randoms message o)
-  unfolding Goes
   heard_goes a randoms (SupportedProfiles version profiles) None = by_test (eqb version 0) where
-    by_test : (b : Bool)
-        → (cond b (spec.quiet (record s { accepted = Some profiles }) randoms) (record { replies = UnsupportedVersion 0 ∷ []; state = s; randoms = randoms; fault = None })).fault ≡ None
-        → Keeps first ops (calls_at (Heard (SupportedProfiles version profiles)) (cond b (spec.quiet (record s { accepted = Some profiles }) randoms) (record { replies = UnsupportedVersion 0 ∷ []; state = s; randoms = randoms; fault = None })).replies)
-        (cond b (spec.quiet (record s { accepted = Some profiles }) randoms) (record { replies = UnsupportedVersion 0 ∷ []; state = s; randoms = randoms; fault = None })).state.lists
-    by_test true none = idle first ops s.lists m
-    by_test false none = idle first ops s.lists m
+    by_test : (b : Bool) → Goes first ops s.lists m few (Heard (SupportedProfiles version profiles))
+        (cond b (spec.quiet (record s { accepted = Some profiles }) randoms) (record { replies = UnsupportedVersion 0 ∷ []; state = s; randoms = randoms; fault = None }))
+    by_test true = λ none. idle first ops s.lists m
+    by_test false = λ none. idle first ops s.lists m
   heard_goes a randoms (SupportedProfiles version profiles) (Some accepted) = λ none. absurd (some_fault (Order 1) none)
   heard_goes a randoms (UnsupportedVersion highest) o = λ none. absurd (some_fault (Order 2) none)
   heard_goes a randoms (MediaKeys association profile client server) o = λ none. absurd (some_fault (Order 3) none)
@@ -266,36 +259,34 @@ module _ (first : List KeyAndSalt) (ops : List Op) (s : State) (m : Matches firs
       (record_replies first ops s.lists m few a s.profile accepted association randoms (a.taken octets))
   heard_goes a randoms (EndpointDisconnect association) None = λ none. absurd (some_fault (Order 5) none)
   heard_goes a randoms (EndpointDisconnect association) (Some accepted) = by_test (is_member s.lists.members association) refl where
-    by_test : (b : Bool) → is_member s.lists.members association ≡ b
-        → (cond b (spec.quiet (record s { lists = without_member association s.lists; left = s.left + 1 }) randoms) (spec.quiet s randoms)).fault ≡ None
-        → Keeps first ops (calls_at (Heard (EndpointDisconnect association)) (cond b (spec.quiet (record s { lists = without_member association s.lists; left = s.left + 1 }) randoms) (spec.quiet s randoms)).replies)
-        (cond b (spec.quiet (record s { lists = without_member association s.lists; left = s.left + 1 }) randoms) (spec.quiet s randoms)).state.lists
-    by_test true is none = record { taken = tt; matches = removed_matches first ops s.lists m association }
-    by_test false is none = record {
+    by_test : (b : Bool) → is_member s.lists.members association ≡ b → Goes first ops s.lists m few (Heard (EndpointDisconnect association))
+        (cond b (spec.quiet (record s { lists = without_member association s.lists; left = s.left + 1 }) randoms) (spec.quiet s randoms))
+    by_test true is = λ none. record { taken = tt; matches = removed_matches first ops s.lists m association }
+    by_test false is = λ none. record {
       taken = tt;
-      matches = subst (Matches first (after_call ops (RemoveCall association))) (ap (λ (members : List keys.MediaKeys). record s.lists { members = members }) (none_out s.lists.members association is))
+      matches = subst (Matches first (after_call ops (RemoveCall association)))
+          (ap (λ (members : List keys.MediaKeys). record s.lists { members = members }) (none_out s.lists.members association is))
           (removed_matches first ops s.lists m association);
     }
 
-  step_goes : (a : Answers) (event : Event) (randoms : List ℕ) → Goes first ops s.lists m few event (step a s event randoms)
-  unfolding step Goes
-  step_goes a (Heard message) randoms = heard_goes a randoms message s.accepted
-  step_goes a Rolled randoms = by_answer (spec.issue s.profile s.lists randoms).answer where
+  rolled_goes : (a : Answers) (part : Part EktKeyRecord) → AreKept s.lists part → Goes first ops s.lists m few Rolled (spec.rolling a s part)
+  rolled_goes a part k = by_answer part.answer where
     by_answer : (answer : Result EktKeyRecord Fault)
-        → (spec.rolling a s (record { answer = answer; lists = (spec.issue s.profile s.lists randoms).lists; randoms = (spec.issue s.profile s.lists randoms).randoms })).fault ≡ None
-        → Keeps first ops (adds_of (spec.rolling a s (record { answer = answer; lists = (spec.issue s.profile s.lists randoms).lists; randoms = (spec.issue s.profile s.lists randoms).randoms })).replies)
-        (spec.rolling a s (record { answer = answer; lists = (spec.issue s.profile s.lists randoms).lists; randoms = (spec.issue s.profile s.lists randoms).randoms })).state.lists
-    by_answer (Ok r) none =
-        subst (λ (calls : List Call). Keeps first ops calls (spec.issue s.profile s.lists randoms).lists) (sym (no_renewal_adds a r (spec.issue s.profile s.lists randoms).lists.members))
-        (idle first ops (spec.issue s.profile s.lists randoms).lists
-        (matches_kept first ops s.lists (spec.issue s.profile s.lists randoms) (issue_kept s.profile s.lists randoms) m))
-    by_answer (Err fault) none = absurd (some_fault fault none)
+        → Goes first ops s.lists m few Rolled (spec.rolling a s (record { answer = answer; lists = part.lists; randoms = part.randoms }))
+    by_answer (Ok r) = λ none.
+        subst (λ (calls : List Call). Keeps first ops calls part.lists) (sym (no_renewal_adds a r part.lists.members))
+        (idle first ops part.lists (matches_kept first ops s.lists part k m))
+    by_answer (Err fault) = λ none. absurd (some_fault fault none)
+
+  step_goes : (a : Answers) (event : Event) (randoms : List ℕ) → Goes first ops s.lists m few event (step a s event randoms)
+  unfolding step
+  step_goes a (Heard message) randoms = heard_goes a randoms message s.accepted
+  step_goes a Rolled randoms = rolled_goes a (spec.issue s.profile s.lists randoms) (issue_kept s.profile s.lists randoms)
 
 -- ---- a run
 
 opened : (first : List KeyAndSalt) (ops : List Op) (s : State) (m : Matches first ops s.lists) (few : length (adds ops) < most_adds) (event : Event) (t : Turn)
     → Goes first ops s.lists m few event t → t.fault ≡ None → Keeps first ops (calls_at event t.replies) t.state.lists
-unfolding Goes
 opened first ops s m few event t h = h
 
 -- a turn, and the later ones behind it

@@ -1,10 +1,10 @@
 -- A key set and a list of members that have the same parties.
-use Rattle.std.specs.List.{flat_map, list_any}
+use Rattle.std.specs.List.{list_any}
 use Rattle.std.specs.Option.{option_map, option_map_or, option_or}
-use Rattle.std.specs.Prelude.{Option, Some, None, Result, Ok, Err, filter, find, is_some, nat_le, not}
+use Rattle.std.specs.Prelude.{Option, Some, None, Ok, filter, find, nat_le, not}
 use Rattle.std.specs.Str.{bytes_eq}
 use Rattle.std.proofs.Common.{◌≡◌, ℕ, ◌+◌, ◌<◌, ◌≤◌, ◌||◌, ◌&&◌, suc, Bool, true, false, cond, List, [], ◌∷◌, ◌++◌, length, map, refl, sym, ap, subst, ◌∙◌, append_assoc, append-nil, arith}
-use Rattle.std.proofs.lemmas.Bool.{cases_Bool, cond-true, cond-false, false≢true}
+use Rattle.std.proofs.lemmas.Bool.{cond-false, false≢true}
 use Rattle.std.proofs.lemmas.Bool.Decides.{nat_tests}
 use Rattle.std.proofs.lemmas.List.{length-append, map-append}
 use Rattle.std.proofs.lemmas.List.Folds.{list_any-append}
@@ -13,13 +13,11 @@ use Rattle.perc_kdf.specs.Derivation.{KeyAndSalt}
 use Rattle.perc_kdf.specs.Order.{same_pair}
 use Rattle.perc_kdf.proofs.OrderLaws.{same_pair-Decides}
 use Rattle.perc_tunnel.specs.declared.message.MediaKeys.{MediaKeys}
-use Rattle.perc_keyset.specs.declared.Added.{Added}
 use Rattle.perc_keyset.specs.declared.Added.TheVariants.{New, Same}
-use Rattle.perc_keyset.specs.declared.AddFault.{AddFault}
 use Rattle.perc_keyset.specs.declared.Entry.{Entry}
 use Rattle.perc_keyset.specs.declared.Op.{Op}
 use Rattle.perc_keyset.specs.declared.Op.TheVariants.{Add, Remove}
-use Rattle.perc_keyset.specs.Calls.{Call, AddCall, RemoveCall, after_call}
+use Rattle.perc_keyset.specs.Calls.{AddCall, RemoveCall, after_call}
 use Rattle.perc_keyset.specs.History.{adds, pairs_of}
 use Rattle.perc_keyset.specs.Publishing.{add_answer, after_add, gave, is_same, most_adds, new_entry, reused_by}
 use Rattle.perc_keyset.specs.Set as set
@@ -205,13 +203,19 @@ module _ (first : List KeyAndSalt) (ops : List Op) (l : Lists) (m : Matches firs
     fold_is : fold_ops (ops ++ Add e ∷ []) ≡ fold_ops ops ++ e ∷ []
     fold_is = set_after-append [] ops (Add e ∷ []) ∙ absorbed_fits (fold_ops ops) e not_full ∙ ap (λ (es : List Entry). es ++ e ∷ []) alone
 
+    one_more : length (l.members ++ k ∷ []) ≤ 64
+    one_more =
+        let more : length (l.members ++ k ∷ []) ≡ length l.members + 1 = length-append l.members (k ∷ []) in
+        let below : length l.members < 64 = grind (arith, nat_tests, room) in
+        omega (arith, more, below)
+
     pub stranger_matches : Matches first (after_call ops (AddCall k.association k.client k.server)) (with_member k l)
     stranger_matches = subst (λ (now : List Op). Matches first now (with_member k l)) (sym added) (record {
       parties = ap (map entered) fold_is ∙ map-append entered (fold_ops ops) (e ∷ []) ∙ ap (λ (ps : List Party). ps ++ member k ∷ []) m.parties
           ∙ sym (map-append member l.members (k ∷ []));
       given = ap (λ (ps : List KeyAndSalt). ps ++ k.client ∷ k.server ∷ []) m.given ∙ append_assoc first (pairs_of (adds ops)) (k.client ∷ k.server ∷ [])
           ∙ ap (λ (ps : List KeyAndSalt). first ++ ps) (sym (flat_map-append (λ d. d.client ∷ d.server ∷ []) (adds ops) (e ∷ [])) ∙ ap pairs_of (sym (adds-append ops (Add e ∷ []))));
-      few = let more : length (l.members ++ k ∷ []) ≡ length l.members + 1 = length-append l.members (k ∷ []) in let below : length l.members < 64 = grind (arith, nat_tests, room) in omega (arith, more, below);
+      few = one_more;
     })
 
   -- an association is removed

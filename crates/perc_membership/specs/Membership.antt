@@ -12,7 +12,7 @@ use Rattle.perc_keyset.specs.History.{adds}
 use Rattle.perc_keyset.specs.Publishing.{add_answer, most_adds}
 use Rattle.perc_keyset.specs.Set.{fold_ops}
 use Rattle.perc_keydist.specs.Answers.{Answers}
-use Rattle.perc_keydist.specs.Distributing.{Event, Heard, Rolled, State, Turn, run_of, step}
+use Rattle.perc_keydist.specs.Distributing.{Event, Heard, Rolled, State, run_of, step}
 
 -- ---- what is brought to the publisher
 

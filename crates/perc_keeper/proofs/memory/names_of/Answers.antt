@@ -1,4 +1,4 @@
-use Rattle.std.proofs.Common.{refl, rules}
+use Rattle.std.proofs.Common.{rules}
 use Rattle.std.proofs.lemmas.Iterator.{items_from_collect, YieldsList-from_map, YieldsList-from_slice}
 use Rattle.perc_tunnel.specs.declared.message.MediaKeys.{MediaKeys}
 use Rattle.perc_keeper.proofs.memory.names_of.Goals as goal

@@ -1,4 +1,4 @@
-use Rattle.std.proofs.Common.{◌≡◌, ℕ, Bool, true, false, cond, List, [], ◌∷◌, ◌||◌, Option, Some, None, is_some, sym, ap, subst, ◌∙◌, rules, refl}
+use Rattle.std.proofs.Common.{◌≡◌, ℕ, Bool, true, false, cond, List, [], ◌∷◌, ◌||◌, Option, Some, is_some, sym, ap, subst, ◌∙◌, rules, refl}
 use Rattle.perc_kdf.specs.Order.{same_pair}
 use Rattle.perc_tunnel.specs.declared.message.MediaKeys.{MediaKeys}
 use Rattle.perc_keeper.specs.Lists.{Lists, MayJoin, is_member, is_of, member_of, was_given}

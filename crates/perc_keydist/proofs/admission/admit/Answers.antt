@@ -8,5 +8,6 @@ returns-in_err-keep_member-clause-told g c = λ l rs known left.
     let p = c.args.profile in
     let drew = c.in_ok-keys.ensures.told rs left in
     let e = err_from_is_err_and c.from_residual-in_err-keep_member.result c.from_residual-in_err-keep_member.ensures.1 in
-    rw (e.1, e.2) (refused_admits l c.in_ok-keys.keys (drawn_keys p c.args.association.now rs) (behind_keys p rs) (g.R.Randoms.left c.draw_keys.new.randoms) c.in_err-keep_member.field-0.0 (g.K.Keeper.lists c.keep_member.new.keeper)
+    rw (e.1, e.2) (refused_admits l c.in_ok-keys.keys (drawn_keys p c.args.association.now rs) (behind_keys p rs) (g.R.Randoms.left c.draw_keys.new.randoms) c.in_err-keep_member.field-0.0
+    (g.K.Keeper.lists c.keep_member.new.keeper)
     drew.0 drew.1 (c.in_err-keep_member.ensures.told l known))

@@ -1,4 +1,4 @@
-use Rattle.std.proofs.Common.{◌≡◌, Option, Some, IfSome, subst, sym, ◌∙◌}
+use Rattle.std.proofs.Common.{◌≡◌, Option, IfSome, subst, sym, ◌∙◌}
 use Rattle.perc_keeper.specs.Lists.{Lists, member_of}
 use Rattle.perc_keydist.proofs.Joining.{no_member}
 use Rattle.perc_keydist.proofs.desk.join.Goals as goal

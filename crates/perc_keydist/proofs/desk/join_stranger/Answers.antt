@@ -7,14 +7,16 @@ use Rattle.perc_keydist.proofs.desk.join_stranger.Goals as goal
 pub returns-in_err-count-clause-told : goal.returns-in_err-count-clause-told
 returns-in_err-count-clause-told g c = λ a l rs told known left.
     let e = err_from_is_err_and c.from_residual.result c.from_residual.ensures.1 in
-    rw (e.1, e.2) (untold (Unit {0}) (spec.join_of a c.args.profile c.args.association.now l rs None) c.in_err-count.field-0.0 c.args.out.now.items (g.K.Keeper.lists c.count_members.new.keeper) (g.R.Randoms.left c.args.randoms.now)
+    rw (e.1, e.2) (untold (Unit {0}) (spec.join_of a c.args.profile c.args.association.now l rs None) c.in_err-count.field-0.0 c.args.out.now.items (g.K.Keeper.lists c.count_members.new.keeper)
+    (g.R.Randoms.left c.args.randoms.now)
     (untold_keeping c.in_err-count.field-0.0 c.in_err-count.ensures.kinds))
 
 pub returns-in_err-granted-clause-told : goal.returns-in_err-granted-clause-told
 returns-in_err-granted-clause-told g c = λ a l rs told known left.
     let room = has_room c.in_ok-count.count _ (c.in_ok-count.ensures.told l known) c.if-count-ge-MOST_MEMBERS.false in
     let e = err_from_is_err_and c.from_residual-in_err-granted.result c.from_residual-in_err-granted.ensures.1 in
-    rw (e.1, e.2) (not_granted a c.args.profile c.args.association.now l rs room (Unit {0}) c.in_err-granted.field-0.0 c.args.out.now.items (g.K.Keeper.lists c.grant.new.keeper) (g.R.Randoms.left c.grant.new.randoms)
+    rw (e.1, e.2) (not_granted a c.args.profile c.args.association.now l rs room (Unit {0}) c.in_err-granted.field-0.0 c.args.out.now.items (g.K.Keeper.lists c.grant.new.keeper)
+    (g.R.Randoms.left c.grant.new.randoms)
     (c.in_err-granted.ensures.told l rs (c.count_members.ensures.kept ∙ known) left))
 
 pub admit-requires : goal.admit-requires
@@ -26,7 +28,8 @@ returns-in_err-keys-clause-told g c = λ a l rs told known left.
     let room = has_room c.in_ok-count.count _ (c.in_ok-count.ensures.told l known) c.if-count-ge-MOST_MEMBERS.false in
     let granted = c.in_ok-granted.ensures.told l rs (c.count_members.ensures.kept ∙ known) left in
     let e = err_from_is_err_and c.from_residual-in_err-keys.result c.from_residual-in_err-keys.ensures.1 in
-    rw (e.1, e.2) (not_admitted a c.args.profile c.args.association.now l rs room c.in_ok-granted.granted granted.0 (Unit {0}) c.in_err-keys.field-0.0 c.args.out.now.items (g.K.Keeper.lists c.admit.new.keeper) (g.R.Randoms.left c.admit.new.randoms)
+    rw (e.1, e.2) (not_admitted a c.args.profile c.args.association.now l rs room c.in_ok-granted.granted granted.0 (Unit {0}) c.in_err-keys.field-0.0 c.args.out.now.items
+    (g.K.Keeper.lists c.admit.new.keeper) (g.R.Randoms.left c.admit.new.randoms)
     (c.in_err-keys.ensures.told (spec.grant c.args.profile l rs).lists (spec.grant c.args.profile l rs).randoms granted.1 granted.2))
 
 pub returns-clause-told : goal.returns-clause-told

@@ -1,4 +1,4 @@
-use Rattle.std.proofs.Common.{◌≡◌, Option, Some, IfSome, subst, sym, ◌∙◌}
+use Rattle.std.proofs.Common.{◌≡◌, Option, IfSome, subst, sym, ◌∙◌}
 use Rattle.perc_keeper.specs.Lists.{Lists, newest}
 use Rattle.perc_keydist.proofs.Joining.{again}
 use Rattle.perc_keydist.proofs.desk.welcome_again.Goals as goal

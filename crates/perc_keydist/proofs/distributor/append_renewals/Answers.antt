@@ -1,4 +1,4 @@
-use Rattle.std.proofs.Common.{◌∙◌, rules, arith}
+use Rattle.std.proofs.Common.{◌∙◌, rules}
 use Rattle.perc_keydist.proofs.Rolling.{front_on, renewals_step, renewed}
 use Rattle.perc_keydist.proofs.distributor.append_renewals.Goals as goal
 

@@ -22,19 +22,23 @@ pub returns-in_err-left-clause-heard : goal.returns-in_err-left-clause-heard
 returns-in_err-left-clause-heard g c =
     let i = c.loop-rest.invariant in
     let f = c.feed_front-rest in
-    let first = goes_fed _ _ c.args.desk.now c.loop-rest.desk c.loop-rest.left _ _ _ _ _ _ _ c.loop-rest.decoder f.new.decoder c.loop-rest.rest.now f.result.now f.ensures.held f.ensures.rest i.heard in
+    let first = goes_fed _ _ c.args.desk.now c.loop-rest.desk c.loop-rest.left _ _ _ _ _ _ _ c.loop-rest.decoder f.new.decoder c.loop-rest.rest.now f.result.now f.ensures.held f.ensures.rest
+    i.heard in
     let e = err_from_is_err_and c.from_residual.result c.from_residual.ensures.1 in
-    rw (e.1, e.2) (goes_wrong _ _ c.args.desk.now c.loop-rest.desk c.loop-rest.left _ _ _ _ _ _ _ f.new.decoder c.hear_held.new.decoder f.result.now c.hear_held.new.desk _ _ _ _ first i.kept i.profile
+    rw (e.1, e.2) (goes_wrong _ _ c.args.desk.now c.loop-rest.desk c.loop-rest.left _ _ _ _ _ _ _ f.new.decoder c.hear_held.new.decoder f.result.now c.hear_held.new.desk _ _ _ _ first i.kept
+    i.profile
     c.in_err-left.field-0.0 c.in_err-left.ensures.heard)
 
 pub loop-rest-preserved : goal.loop-rest-preserved
 loop-rest-preserved g c =
     let i = c.loop-rest.invariant in
     let f = c.feed_front-rest in
-    let first = goes_fed _ _ c.args.desk.now c.loop-rest.desk c.loop-rest.left _ _ _ _ _ _ _ c.loop-rest.decoder f.new.decoder c.loop-rest.rest.now f.result.now f.ensures.held f.ensures.rest i.heard in
+    let first = goes_fed _ _ c.args.desk.now c.loop-rest.desk c.loop-rest.left _ _ _ _ _ _ _ c.loop-rest.decoder f.new.decoder c.loop-rest.rest.now f.result.now f.ensures.held f.ensures.rest
+    i.heard in
     let given : f.new.decoder.given ≡ c.loop-rest.decoder.given = ap (λ (d : Decoding). d.given) f.ensures.held in
     record {
-      heard = goes_on_held _ _ c.args.desk.now c.loop-rest.desk c.loop-rest.left _ _ _ _ _ _ _ f.new.decoder c.hear_held.new.decoder f.result.now c.hear_held.new.desk _ _ _ _ first i.kept i.profile
+      heard = goes_on_held _ _ c.args.desk.now c.loop-rest.desk c.loop-rest.left _ _ _ _ _ _ _ f.new.decoder c.hear_held.new.decoder f.result.now c.hear_held.new.desk _ _ _ _ first i.kept
+          i.profile
           c.in_ok-left.field-0 _ refl c.in_ok-left.ensures.heard;
       ready = search rules;
       part = search rules;

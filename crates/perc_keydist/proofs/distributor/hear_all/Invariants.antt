@@ -1,4 +1,4 @@
-use Rattle.std.proofs.Common.{◌≡◌, ℕ, ◌+◌, ◌≤◌, ◌++◌, None, length}
+use Rattle.std.proofs.Common.{◌≡◌, ◌+◌, ◌≤◌, ◌++◌, None, length}
 use Rattle.perc_tunnel.specs.Stream.{IsPart}
 use Rattle.perc_keydist.proofs.Running.{GoesOn}
 use Rattle.perc_keydist.proofs.distributor.hear_all.Given as goal

@@ -8,7 +8,8 @@ pub returns-in_err-has_left-clause-heard : goal.returns-in_err-has_left-clause-h
 returns-in_err-has_left-clause-heard g c =
     let i = c.loop-has_left.invariant in
     let e = err_from_is_err_and c.from_residual.result c.from_residual.ensures.1 in
-    rw (e.1, e.2) (held_ends c.args.decoder.now.held c.args.decoder.now.given c.loop-has_left.decoder c.hear_next.new.decoder c.args.desk.now c.loop-has_left.desk c.hear_next.new.desk c.loop-has_left.left
+    rw (e.1, e.2) (held_ends c.args.decoder.now.held c.args.decoder.now.given c.loop-has_left.decoder c.hear_next.new.decoder c.args.desk.now c.loop-has_left.desk c.hear_next.new.desk
+    c.loop-has_left.left
     _ _ _ _ _ _ _ _ _ _ _ i.heard i.kept i.profile count_next c.in_err-has_left.field-0.0 c.in_err-has_left.ensures.heard)
 
 pub returns-clause-heard : goal.returns-clause-heard
@@ -25,7 +26,8 @@ loop-has_left-preserved g c =
     let fewer = subst (λ (o : Option Bool). IfSome o (λ _. length c.hear_next.new.decoder.held < length c.loop-has_left.decoder.held)) c.in-Some.is c.in_ok-has_left.ensures.fewer in
     let one : c.from-left.result ≤ 1 = subst (λ (k : ℕ). k ≤ 1) (sym c.from-left.ensures) (at_most_one c.in-Some.has_left) in
     record {
-      heard = held_on c.args.decoder.now.held c.args.decoder.now.given c.loop-has_left.decoder c.hear_next.new.decoder c.args.desk.now c.loop-has_left.desk c.hear_next.new.desk c.loop-has_left.left
+      heard = held_on c.args.decoder.now.held c.args.decoder.now.given c.loop-has_left.decoder c.hear_next.new.decoder c.args.desk.now c.loop-has_left.desk c.hear_next.new.desk
+          c.loop-has_left.left
           _ _ _ _ _ _ _ _ _ _ _ i.heard i.kept i.profile count_next c.in_ok-has_left.field-0 _ (ap (λ (k : ℕ). c.loop-has_left.left + k) count) c.in_ok-has_left.ensures.heard;
       ready = search rules;
       all = c.in_ok-has_left.ensures.all ∙ i.all;

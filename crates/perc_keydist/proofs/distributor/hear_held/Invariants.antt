@@ -1,5 +1,4 @@
-use Rattle.std.proofs.Common.{◌≡◌, ℕ, ◌+◌, ◌≤◌, None, Ok, length, Result}
-use Rattle.perc_keydist.specs.declared.fault.KdFault.{KdFault}
+use Rattle.std.proofs.Common.{◌≡◌, ◌+◌, ◌≤◌, None, Ok, length}
 use Rattle.perc_keydist.specs.Feeding.{Feeds, itself}
 use Rattle.perc_keydist.proofs.distributor.hear_held.Given as goal
 

@@ -12,7 +12,8 @@ pub returns-in_err-has_left-in-Ok-Some-clause-heard : goal.returns-in_err-has_le
 returns-in_err-has_left-in-Ok-Some-clause-heard g c =
     let e = err_from_is_err_and c.from_residual.result c.from_residual.ensures.1 in
     rw (e.1, e.2) (next_failed c.args.decoder.now c.next.follows.lender-at-none c.next.result c.next.follows.holds-at-none c.in-Ok-Some.message (c.in-Ok-Some.is ∙ as_ok c.in-Ok-Some.field-0-is)
-    c.args.desk.now c.hear.new.self c.in_err-has_left-in-Ok-Some.field-0.0 _ _ _ _ _ _ _ c.in_err-has_left-in-Ok-Some.ensures.kinds c.in_err-has_left-in-Ok-Some.ensures.refused c.in_err-has_left-in-Ok-Some.ensures.told)
+    c.args.desk.now c.hear.new.self c.in_err-has_left-in-Ok-Some.field-0.0 _ _ _ _ _ _ _ c.in_err-has_left-in-Ok-Some.ensures.kinds c.in_err-has_left-in-Ok-Some.ensures.refused
+    c.in_err-has_left-in-Ok-Some.ensures.told)
 
 pub returns-in_ok-has_left-in-Ok-Some-clause-heard : goal.returns-in_ok-has_left-in-Ok-Some-clause-heard
 returns-in_ok-has_left-in-Ok-Some-clause-heard g c =

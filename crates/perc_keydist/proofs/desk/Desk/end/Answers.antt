@@ -1,4 +1,4 @@
-use Rattle.std.proofs.Common.{◌≡◌, Option, Some, IfSome, refl, sym, ap, subst, ◌∙◌}
+use Rattle.std.proofs.Common.{◌≡◌, Option, IfSome, refl, ap, subst, ◌∙◌}
 use Rattle.std.specs.Option.{option_map}
 use Rattle.perc_keeper.specs.Lists.{Lists, is_member, without_member}
 use Rattle.perc_keydist.specs.Desks.{accepted_at, state_at}

@@ -1,4 +1,4 @@
-use Rattle.std.proofs.Common.{List, ℕ, refl, sym, ap, ◌∙◌}
+use Rattle.std.proofs.Common.{List, ℕ, refl, ap, ◌∙◌}
 use Rattle.std.specs.Option.{option_map}
 use Rattle.perc_keydist.specs.Desks.{accepted_at, state_at}
 use Rattle.perc_keydist.specs.Wanted.{is_wanted}
@@ -9,4 +9,6 @@ pub returns-clause-told : goal.returns-clause-told
 returns-clause-told g c = λ a l rs left told known drawn.
     joins_heard a (state_at c.args.self.now l left) rs c.args.association.now c.args.octets.now c.in-Some.accepted.items (accepted_at c.args.self.now) c.in_ok-hello.hello c.join.result
     c.args.out.now.items c.join.new.out.items (g.K.Keeper.lists c.join.new.keeper) (g.R.Randoms.left c.join.new.randoms) refl
-    (ap (option_map (λ numbers. numbers.items)) c.in-Some.is) (c.in_ok-hello.ensures.told a told) (c.if-not-is_wanted.ensures ∙ ap (λ (xs : List ℕ). is_wanted c.args.self.now.profile xs c.in_ok-hello.hello) c.as_slice.ensures.value) (c.join.ensures.told a l rs (c.take.ensures.kept ∙ told) known drawn)
+    (ap (option_map (λ numbers. numbers.items)) c.in-Some.is) (c.in_ok-hello.ensures.told a told)
+    (c.if-not-is_wanted.ensures ∙ ap (λ (xs : List ℕ). is_wanted c.args.self.now.profile xs c.in_ok-hello.hello) c.as_slice.ensures.value)
+    (c.join.ensures.told a l rs (c.take.ensures.kept ∙ told) known drawn)

@@ -9,4 +9,5 @@ returns-clause-fed g c = λ ready.
     subst (λ (k : KeyDistributor). FeedsSo k c.args.bytes.now a.result (view a.new.desk a.new.decoder c.err-self-inside.result) (g.H.Handshake.answers c.args.hand.now)
     (g.K.Keeper.lists c.args.keeper.now) (g.K.Keeper.lists a.new.keeper) (g.R.Randoms.left c.args.randoms.now) (g.R.Randoms.left a.new.randoms) c.args.out.now.items a.new.out.items)
     c.self.view_is
-    (feed_so c.self.inside.desk a.new.desk c.self.inside.decoder a.new.decoder c.self.inside.fault c.err-self-inside.result c.args.bytes.now a.result _ _ _ _ _ _ _ c.err-self-inside.ensures.value a.ensures.part a.ensures.heard)
+    (feed_so c.self.inside.desk a.new.desk c.self.inside.decoder a.new.decoder c.self.inside.fault c.err-self-inside.result c.args.bytes.now a.result _ _ _ _ _ _ _ c.err-self-inside.ensures.value
+    a.ensures.part a.ensures.heard)
