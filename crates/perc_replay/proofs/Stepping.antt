@@ -13,14 +13,17 @@ use Rattle.perc_conference_state.specs.declared.conference.Stop.{Stop}
 use Rattle.perc_conference_state.specs.declared.conference.Told.{Told}
 use Rattle.perc_replay.proofs.Growth.{Grown, GrowsSo, at_grows}
 use Rattle.perc_replay.proofs.LineFeeds.{line_feeds-line, no_feeds}
-use Rattle.perc_replay.specs.Running.{BreaksOff, Grows, IsTidy, LineStops, NextStep, NextTurn, Steps, TakesLine, TurnsNext}
+use Rattle.perc_replay.specs.Running.{BreaksOff, Grows, IsTidy, LineStops, NextStep, NextTurn, PastAll, Steps, TakesLine, TurnsNext}
+use Rattle.perc_replay.specs.declared.run.Counts.{Counts}
 use Rattle.perc_replay.specs.declared.run.Halt.TheVariants as halt
 use Rattle.perc_replay.specs.declared.run.Halt.{Halt}
+use Rattle.perc_replay.specs.declared.run.ReplayEnd.TheVariants as end
+use Rattle.perc_replay.specs.declared.run.ReplayEnd.{ReplayEnd}
 use Rattle.perc_report_line.specs.Report.{Report, report_texts}
 use Rattle.perc_run.specs.Delivering.{Judge, by_cipher}
 use Rattle.perc_run.specs.Report.{turn_at}
 use Rattle.perc_run.specs.Sound.{IsOrderly}
-use Rattle.perc_run.specs.State.{State, Turn, Goes, Halts, Refused}
+use Rattle.perc_run.specs.State.{State, Turn, Goes, Halts, Refused, last_line}
 use Rattle.perc_script_line.specs.Script.{IsScript, Script, script_of}
 use Rattle.perc_script_line.specs.declared.reason.Reason.TheVariants as reason
 
@@ -226,6 +229,24 @@ failed_breaks None left held now r failed step e = tt
 failed_breaks (Some all) left held now r failed step e =
     let failed_step = subst (λ (a : Result LineRead Failed). Step held (Some all) (answered a) now left) e step in
     (failed_step.reads.0, failed_step.reads.2, breaks_off held now all left failed failed_step.reads.0 failed_step failed_step.reads.2)
+
+-- ---- past the last line that a number is for
+
+pub past_line : (all left : Option (List ℕ)) (held now : Held) (r : Result LineRead Failed) (line : Bor (List ℕ)) (counts : Counts) (e : ReplayEnd) → Step held all (answered r) now left
+    → r ≡ Ok (read.Line line) → e ≡ end.Script last_line reason.Limit → IfSome all (λ all. IsTidy held all → PastAll (lines_before held all) counts e left)
+past_line None left held now r line counts e step is limit = tt
+past_line (Some all) left held now r line counts e step is limit = λ tidy.
+    let g = given held now all left (Line line.now) (answer_is r (read.Line line) held now (Some all) left step is) tidy in
+    let first = first_line (lines_before held all) line.now (lines_before now g.0) g.3 in
+    subst (λ (x : ReplayEnd). PastAll (lines_before held all) counts x left) (sym limit) (refl, refl, line.now, lines_before now g.0, first.0)
+
+pub past_long : (all left : Option (List ℕ)) (held now : Held) (r : Result LineRead Failed) (counts : Counts) (e : ReplayEnd) → Step held all (answered r) now left → r ≡ Ok read.Long
+    → e ≡ end.Script last_line reason.Limit → IfSome all (λ all. IsTidy held all → PastAll (lines_before held all) counts e left)
+past_long None left held now r counts e step is limit = tt
+past_long (Some all) left held now r counts e step is limit = λ tidy.
+    let g = given held now all left Long (answer_is r read.Long held now (Some all) left step is) tidy in
+    let long = long_line (lines_before held all) (lines_before now g.0) g.3 in
+    subst (λ (x : ReplayEnd). PastAll (lines_before held all) counts x left) (sym limit) (refl, refl, long.0, long.1, long.2)
 
 -- ---- a line written
 

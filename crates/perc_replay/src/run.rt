@@ -1,5 +1,5 @@
 // A conference script read from a source, and its report written to a sink.
-ghost use Rattle.std.specs.Prelude.{◌≡◌, ◌≢◌, ◌≤◌, ◌<◌, ◌^◌, ◌-◌, ◌+◌, ℕ, List, [], Some, Ok, Err, None, IfOk, IfSome};
+ghost use Rattle.std.specs.Prelude.{◌≡◌, ◌≢◌, ◌≤◌, ◌<◌, ◌^◌, ◌-◌, ◌+◌, ℕ, List, Some, Err, IfOk, IfSome};
 ghost use Rattle.perc_base.specs.Lines.{lines_before};
 ghost use Rattle.perc_base.specs.Outside.{HasRisen};
 ghost use Rattle.perc_run.specs.Sound.{IsOrderly};
@@ -73,7 +73,8 @@ impl Counts {
 
 /// Reads a conference script and writes its report, that of each line when the line is done.
 pub fn replay<I: Source, O: Sink>(alloc: Global, input: &mut I, out: &mut O) -> ReplayEnd
-    // What is written is the report of the octets that the source has.
+    // What is written is the report of the octets that the source has; after a failed read or want of memory that of the lines done
+    // before, and after a failed write a beginning of it.
     ensures report { IfSome (I.left input.old) (λ octets. IfSome (O.written out.old) (λ before.
         (after : List ℕ) × (O.written out.new ≡ Some after) × Ends octets before result (I.left input.new) after)) }
     // A fault comes only where a call failed.

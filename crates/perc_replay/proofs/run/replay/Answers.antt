@@ -1,9 +1,9 @@
-use Rattle.std.proofs.Common.{◌≡◌, ◌≢◌, ◌+◌, Ok, Some, Option, Result, ap, ◌∙◌, subst, sym, arith}
+use Rattle.std.proofs.Common.{◌≡◌, ◌≢◌, ◌+◌, Ok, None, Some, Option, Result, ap, ◌∙◌, subst, sym, arith}
 use Rattle.perc_conference_state.specs.declared.conference.Told.{Told}
 use Rattle.perc_replay.specs.declared.run.Counts.{Counts}
 use Rattle.perc_replay.specs.declared.run.Halt.{Halt}
 use Rattle.perc_run.specs.State.{nobody}
-use Rattle.perc_replay.proofs.Running.{ReachesOn, bounded_more, none_counted, on_halted, on_more, on_none, on_past}
+use Rattle.perc_replay.proofs.Running.{ReachesOn, bounded_more, none_counted, on_halted, on_more, on_none, on_over, on_past}
 use Rattle.perc_replay.proofs.run.replay.Goals as goal
 
 some_ok : {o : Option Told} {told : Told} → o ≡ Some told → ◌≡◌ {A = Result (Option Told) Halt} (Ok o) (Ok (Some told))
@@ -17,6 +17,17 @@ loop-number-init g c = record {
   writes = omega arith;
   reaches = on_none (g.I.Source.left c.args.input.now) (g.O.Sink.written c.args.out.now) c.in-Ok.lines c.in-Ok-new.conference c.in-Ok.ensures c.always_orderly.ensures.first c.in-Ok-new.ensures;
 }
+
+none_ok : {o : Option Told} → o ≡ None → ◌≡◌ {A = Result (Option Told) Halt} (Ok o) (Ok None)
+none_ok e = ap (λ (x : Option Told). Ok x) e
+
+pub returns-in-Ok-None-clause-report : goal.returns-in-Ok-None-clause-report
+returns-in-Ok-None-clause-report g c =
+    let l = c.loop-number in
+    let all = g.I.Source.left c.args.input.now in
+    let written = g.O.Sink.written c.args.out.now in
+    on_over all written (g.I.Source.left l.input) (g.O.Sink.written l.out) (g.I.Source.left c.step.new.input) (g.O.Sink.written c.step.new.out) l.number l.lines c.step.new.lines l.conference
+    c.step.new.conference l.counts c.step.result l.invariant.reaches c.step.ensures.step (c.in-Ok-None.is ∙ none_ok c.in-Ok-None.field-0-is)
 
 pub returns-in-Err-clause-report : goal.returns-in-Err-clause-report
 returns-in-Err-clause-report g c =
