@@ -9,4 +9,4 @@ mod relaying;
 mod tests;
 
 pub use ends::{InnerFault, inner_unseal, seal_double};
-pub use relaying::{RelayFault, relay, relayed_len};
+pub use relaying::{RelayFault, relay, relayed_len, write_relayed};

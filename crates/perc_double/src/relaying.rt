@@ -91,9 +91,9 @@ fn fault_of(fault: TxFault) -> RelayFault
     }
 }
 
-// Writes the relayed packet of an opened packet to the front of `out`, and answers its length before it is sealed. None
-// where it wouldn't fit with its tag.
-fn write_relayed(packet: &[u8], change: &Change<'_>, out: &mut [u8; 1500]) -> Option<usize>
+/// Writes the relayed packet of an opened packet, of at most 1500 octets, to the front of `out`: the changed header, the inner
+/// octets and the block (RFC 8723 section 5.2). Answers its length before it is sealed. None where it wouldn't fit with its tag.
+pub fn write_relayed(packet: &[u8], change: &Change<'_>, out: &mut [u8; 1500]) -> Option<usize>
     requires few { length packet.now ≤ 1500 }
     requires change { IsRewrite (rewrite_of change.now) }
     requires reads { (h : Header) × (octets : List ℕ) × (o : Ohb) × IsOpened h octets o packet.now }
