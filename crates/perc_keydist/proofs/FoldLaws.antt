@@ -21,6 +21,7 @@ use Rattle.perc_tunnel.specs.Message.{TunnelMessage, SupportedProfiles, Unsuppor
 use Rattle.perc_keeper.specs.Lists.{Lists, higher, newest, key_of, spi_of, was_given, member_of, is_member, with_issued, with_member, without_member}
 use Rattle.perc_keeper.proofs.KeptLaws.{append-append}
 use Rattle.perc_keydist.specs.Answers.{Answers}
+use Rattle.perc_keydist.specs.Calls.{Follows}
 use Rattle.perc_keydist.specs.declared.handshake.Hello.{Hello}
 use Rattle.perc_keydist.specs.declared.handshake.Hello.TheVariants.{Join, Other}
 use Rattle.perc_keydist.specs.Distributing as spec
@@ -76,8 +77,8 @@ below_all n (r ∷ records) below =
         by_test true is below = (below, grind (arith, is, below))
         by_test false is below = (grind (arith, is, below), below)
 
-next_above : (records : List EktKeyRecord) → All (λ s. s.spi < next_spi records) records
-next_above records = below_all (next_spi records) records (by_case (newest records)) where
+pub next_above : (records : List EktKeyRecord) → IfSome (newest records) (λ s. s.spi < next_spi records)
+next_above records = by_case (newest records) where
   by_case : (o : Option EktKeyRecord) → IfSome o (λ s. s.spi < option_map_or (λ r. r.spi + 1) o 1)
   by_case None = tt
   by_case (Some r) = omega arith
@@ -95,19 +96,26 @@ other_keys key (r ∷ records) none =
 both_all : {X : Type 0} (P Q : X → Type 0) (xs : List X) → All P xs → All Q xs → All (λ x. P x × Q x) xs
 both_all P Q xs p q k d below = (p k d below, q k d below)
 
+-- a record with an SPI above all and a new key
+pub issued_follows : (l : Lists) (r : EktKeyRecord) → IfSome (newest l.issued) (λ s. s.spi < r.spi) → is_some (spi_of l.issued (key_of r)) ≡ false
+    → Follows l (with_issued r l)
+issued_follows l r above new =
+    let lower : All (λ s. (s.spi < r.spi) × (key_of s ≢ key_of r)) l.issued =
+    both_all (λ s. s.spi < r.spi) (λ s. key_of s ≢ key_of r) l.issued (below_all r.spi l.issued above) (other_keys (key_of r) l.issued new) in
+    let earlier : All (λ s. IsBefore s r) l.issued =
+    All-weaker (λ s. (s.spi < r.spi) × (key_of s ≢ key_of r)) (λ s. IsBefore s r) (λ s h. record { spi = h.0; key = h.1 }) l.issued lower in
+    record {
+      extends = record { issued = r ∷ []; given = []; issued_is = refl; given_is = sym (append-nil l.given) };
+      once = λ once. record { rising = all_pairs_push IsBefore l.issued r once.rising earlier; apart = once.apart };
+    }
+
 issued_goes : (p : Profile) (l : Lists) (pair : KeyAndSalt) → length pair.key ≡ key_length p → is_some (spi_of l.issued pair.key) ≡ false → IsOnce l
     → Goes l (with_issued (drawn_record p l.issued pair) l)
 issued_goes p l pair size new once =
     let r = drawn_record p l.issued pair in
     let key : key_of r ≡ pair.key = key_drawn p l.issued pair size in
-    let lower : All (λ s. (s.spi < r.spi) × (key_of s ≢ pair.key)) l.issued =
-    both_all (λ s. s.spi < r.spi) (λ s. key_of s ≢ pair.key) l.issued (next_above l.issued) (other_keys pair.key l.issued new) in
-    let earlier : All (λ s. IsBefore s r) l.issued =
-    All-weaker (λ s. (s.spi < r.spi) × (key_of s ≢ pair.key)) (λ s. IsBefore s r) (λ s h. record { spi = h.0; key = λ e. h.1 (e ∙ key) }) l.issued lower in
-    record {
-      once = record { rising = all_pairs_push IsBefore l.issued r once.rising earlier; apart = once.apart };
-      extends = record { issued = r ∷ []; given = []; issued_is = refl; given_is = sym (append-nil l.given) };
-    }
+    let follows = issued_follows l r (next_above l.issued) (ap (λ (k : List ℕ). is_some (spi_of l.issued k)) key ∙ new) in
+    record { once = follows.once once; extends = follows.extends }
 
 -- ---- a new member
 
@@ -129,22 +137,26 @@ three_false true b c e = absurd cc
 three_false false true c e = absurd cc
 three_false false false true e = absurd cc
 
-member_goes : (k : keys.MediaKeys) (l : Lists) → spec.repeats k l ≡ false → IsOnce l → Goes l (with_member k l)
-member_goes k l new once =
+pub member_follows : (k : keys.MediaKeys) (l : Lists) → spec.repeats k l ≡ false → Follows l (with_member k l)
+member_follows k l new =
     let tests = three_false (same_pair k.client k.server) (was_given l.given k.client) (was_given l.given k.server) new in
-    let first = all_pairs_push (λ p q. p ≢ q) l.given k.client once.apart (not_given k.client l.given tests.1) in
     let others : All (λ p. p ≢ k.server) (l.given ++ k.client ∷ []) =
     All-append (λ p. p ≢ k.server) l.given (k.client ∷ []) (not_given k.server l.given tests.2) (All-cons (λ p. p ≢ k.server) k.client [] (differ k.client k.server tests.0) (All-nil (λ p. p ≢ k.server))) in
-    let second = all_pairs_push (λ p q. p ≢ q) (l.given ++ k.client ∷ []) k.server first others in
     record {
-      once = record { rising = once.rising; apart = subst (AllPairs (λ p q. p ≢ q)) (append-append l.given k.client k.server) second };
       extends = record { issued = []; given = k.client ∷ k.server ∷ []; issued_is = sym (append-nil l.issued); given_is = refl };
+      once = λ once.
+          let first = all_pairs_push (λ p q. p ≢ q) l.given k.client once.apart (not_given k.client l.given tests.1) in
+          let second = all_pairs_push (λ p q. p ≢ q) (l.given ++ k.client ∷ []) k.server first others in
+          record { rising = once.rising; apart = subst (AllPairs (λ p q. p ≢ q)) (append-append l.given k.client k.server) second };
     }
+
+member_goes : (k : keys.MediaKeys) (l : Lists) → spec.repeats k l ≡ false → IsOnce l → Goes l (with_member k l)
+member_goes k l new once = let follows = member_follows k l new in record { once = follows.once once; extends = follows.extends }
 
 -- ---- parts of turns
 
 -- the newest record is one of them
-newest_in : (records : List EktKeyRecord) (r : EktKeyRecord) → newest records ≡ Some r → Contains records r
+pub newest_in : (records : List EktKeyRecord) (r : EktKeyRecord) → newest records ≡ Some r → Contains records r
 newest_in [] r is = absurd cc
 newest_in (x ∷ records) r is = among (newest records) (newest_in records r) is where
   among : (o : Option EktKeyRecord) → (o ≡ Some r → Contains records r) → higher x o ≡ Some r → Contains (x ∷ records) r
@@ -200,7 +212,7 @@ record Replies (a : Answers) (l : Lists) (part : Replying) : Type 0 where
 silent_replies : (a : Answers) (l : Lists) (randoms : List ℕ) → IsOnce l → Replies a l (spec.silent l randoms)
 silent_replies a l randoms once = record { goes = stays l once; backed = λ replies e. subst (All (IsBacked a l.issued)) (ok_same [] replies e) (All-nil (IsBacked a l.issued)) }
 
-welcome_backed : (a : Answers) (issued : List EktKeyRecord) (k : keys.MediaKeys) (r : EktKeyRecord) → Contains issued r → All (IsBacked a issued) (welcomed a k r)
+pub welcome_backed : (a : Answers) (issued : List EktKeyRecord) (k : keys.MediaKeys) (r : EktKeyRecord) → Contains issued r → All (IsBacked a issued) (welcomed a k r)
 welcome_backed a issued k r kept =
     All-cons (IsBacked a issued) (MediaKeys k.association k.profile k.client k.server) (TunneledDtls k.association (a.welcome k r) ∷ []) tt
     (All-cons (IsBacked a issued) (TunneledDtls k.association (a.welcome k r)) [] (r, kept, inl (k, refl)) (All-nil (IsBacked a issued)))
@@ -295,7 +307,7 @@ safe_hear a s randoms (EndpointDisconnect association) (Some accepted) once = by
   by_test true = idle a s (without_member association s.lists) (spec.quiet (record s { lists = without_member association s.lists; left = s.left + 1 }) randoms) once refl refl refl refl
   by_test false = idle a s s.lists (spec.quiet s randoms) once refl refl refl refl
 
-renewals_backed : (a : Answers) (issued : List EktKeyRecord) (r : EktKeyRecord) (members : List keys.MediaKeys) → Contains issued r → All (IsBacked a issued) (spec.renewals a r members)
+pub renewals_backed : (a : Answers) (issued : List EktKeyRecord) (r : EktKeyRecord) (members : List keys.MediaKeys) → Contains issued r → All (IsBacked a issued) (spec.renewals a r members)
 renewals_backed a issued r [] kept = All-nil (IsBacked a issued)
 renewals_backed a issued r (k ∷ members) kept =
     All-cons (IsBacked a issued) (TunneledDtls k.association (a.renewal r)) (spec.renewals a r members) (r, kept, inr refl) (renewals_backed a issued r members kept)
@@ -312,7 +324,7 @@ safe_step a s (Heard m) randoms once = safe_hear a s randoms m s.accepted once
 safe_step a s Rolled randoms once = safe_roll a s (spec.issue s.profile s.lists randoms) (issue_grants s.profile s.lists randoms once)
 
 -- what backs a reply still does behind more records
-still_backed : (a : Answers) (issued more : List EktKeyRecord) (m : TunnelMessage) → IsBacked a issued m → IsBacked a (issued ++ more) m
+pub still_backed : (a : Answers) (issued more : List EktKeyRecord) (m : TunnelMessage) → IsBacked a issued m → IsBacked a (issued ++ more) m
 still_backed a issued more (TunneledDtls association octets) (r, kept, is) = (r, Contains-append_left issued more r kept, is)
 still_backed a issued more (SupportedProfiles version profiles) h = tt
 still_backed a issued more (UnsupportedVersion highest) h = tt

@@ -1,6 +1,6 @@
 -- What a desk makes of messages, as turns.
 use Rattle.std.specs.Option.{option_map}
-use Rattle.std.specs.Prelude.{Option, Some, None, IfSome, Result, Ok, Err, is_some, not}
+use Rattle.std.specs.Prelude.{Option, Some, None, IfErr, IfOk, IfSome, IsTrue, OnOk, Result, Ok, Err, is_some, not}
 use Rattle.std.proofs.Common.{◌≡◌, ℕ, ◌+◌, ◌||◌, Bool, true, false, cond, List, [], ◌∷◌, refl, sym, ap, subst, ◌∙◌, add-zero, append-nil}
 use Rattle.std.proofs.lemmas.Bool.{cond-true, cond-false}
 use Rattle.perc_base.specs.declared.profile.Profile.{Profile}
@@ -11,12 +11,13 @@ use Rattle.perc_keydist.specs.declared.fault.KdFault.{KdFault}
 use Rattle.perc_keydist.specs.declared.handshake.Hello.{Hello}
 use Rattle.perc_keydist.specs.declared.handshake.Hello.TheVariants.{Join, Other}
 use Rattle.perc_keydist.specs.Answers.{Answers}
-use Rattle.perc_keydist.specs.Causes.{told_as}
+use Rattle.perc_keydist.specs.Causes.{is_of_keeping, told_as}
 use Rattle.perc_keydist.specs.Desks.{Hears, IsDone, IsRefused, count_of, nobody}
 use Rattle.perc_keydist.specs.Distributing as spec
 use Rattle.perc_keydist.specs.Distributing.{Fault, Part, Replying, State, Turn, ended, hear, record_heard, turn_of}
 use Rattle.perc_keydist.specs.Gives.{Replied}
 use Rattle.perc_keydist.specs.Wanted.{is_wanted}
+use Rattle.perc_keydist.proofs.Joining.{untold_keeping}
 
 -- the same turn, of equal lists and randoms
 pub heard_with : {X : Type 0} (t u : Turn) (count : X → ℕ) (left : ℕ) (result : Result X KdFault) (before after : List ℕ) (accepted : Option (List ℕ))
@@ -73,7 +74,7 @@ none_out (k ∷ members) association none = by_test (is_of association k) none (
   by_test true none later = absurd cc
   by_test false none later = ap (λ (ks : List MediaKeys). k ∷ ks) (later none)
 
-pub end_heard : (a : Answers) (s : State) (randoms association : List ℕ) (o : Option (List ℕ)) (b : Bool) (lists : Option Lists) (out : List ℕ) → s.accepted ≡ o → is_some o ≡ true
+end_heard : (a : Answers) (s : State) (randoms association : List ℕ) (o : Option (List ℕ)) (b : Bool) (lists : Option Lists) (out : List ℕ) → s.accepted ≡ o → is_some o ≡ true
     → b ≡ is_member s.lists.members association → lists ≡ Some (without_member association s.lists)
     → IsDone (hear a s randoms (EndpointDisconnect association) o) out out o lists (Some randoms) (s.left + count_of b)
 end_heard a s randoms association None b lists out known there is changed = absurd cc
@@ -96,6 +97,17 @@ end_heard a s randoms association (Some accepted) b lists out known there is cha
         draws = refl;
         leaves = add-zero s.left;
       })
+
+-- an association was asked to go
+pub left_heard : (a : Answers) (s : State) (randoms association : List ℕ) (o : Option (List ℕ)) (result : Result Bool KdFault) (before now : Option Lists) (out : List ℕ)
+    → s.accepted ≡ o → is_some o ≡ true → before ≡ Some s.lists → IfOk result (λ b. IfSome before (λ l. b ≡ is_member l.members association))
+    → OnOk result (now ≡ option_map (without_member association) before) → IfErr result (λ e. IsTrue (is_of_keeping e))
+    → Hears (hear a s randoms (EndpointDisconnect association) o) count_of s.left result out out o now (Some randoms)
+left_heard a s randoms association o (Ok b) before now out known there was member gone kinds =
+    let is = subst (λ (p : Option Lists). IfSome p (λ l. b ≡ is_member l.members association)) was member in
+    end_heard a s randoms association o b now out known there is (gone ∙ ap (option_map (without_member association)) was)
+left_heard a s randoms association o (Err e) before now out known there was member gone kinds =
+    subst (λ (f : Option Fault). IfSome f (λ f. IsRefused (hear a s randoms (EndpointDisconnect association) o) f now (Some randoms))) (sym (untold_keeping e kinds)) tt
 
 pub is_some_map : {X Y : Type 0} (f : X → Y) (o : Option X) → is_some (option_map f o) ≡ is_some o
 is_some_map f None = refl

@@ -34,21 +34,32 @@ few : (p : Profile) → key_length p ≤ 32
 few Aes128 = omega arith
 few Aes256 = omega arith
 
--- a key in the front of its room, and a salt, are filled in turn
-pub drawn_two : (p : Profile) (randoms : List ℕ) (k : ℕ) (room salt_room key salt : List ℕ) (before between after : Option (List ℕ)) → k ≡ key_length p
-    → length room ≡ 32 → length salt_room ≡ 12 → before ≡ Some randoms → Fills before between (take k room) key → Fills between after salt_room salt
-    → ((record { key = take k (key ++ drop k room); salt = salt }) ≡ drawn_pair (key_length p) randoms) × (after ≡ Some (behind_pair (key_length p) randoms))
-drawn_two p randoms k room salt_room key salt before between after is size salt_size known first second =
+-- a key in the front of its room is filled
+pub key_filled : (p : Profile) (k : ℕ) (randoms room key : List ℕ) (before after : Option (List ℕ)) → k ≡ key_length p → length room ≡ 32 → before ≡ Some randoms
+    → Fills before after (take k room) key
+    → (take (key_length p) (key ++ drop k room) ≡ drawn (key_length p) randoms) × (after ≡ Some (drop (key_length p) randoms))
+key_filled p k randoms room key before after is size known filled =
     let n = key_length p in
     let part : length (take k room) ≡ n = ap (λ (i : ℕ). length (take i room)) is ∙ length-take-le n room (omega (arith, few p, size)) in
-    let a = fills_told randoms before between (take k room) key known first in
+    let a = fills_told randoms before after (take k room) key known filled in
     let key_is : key ≡ drawn n randoms = a.0 ∙ ap (λ (i : ℕ). drawn i randoms) part in
-    let left : between ≡ Some (drop n randoms) = a.1 ∙ ap (λ (i : ℕ). Some (drop i randoms)) part in
-    let b = fills_told (drop n randoms) between after salt_room salt left second in
-    let salt_is : salt ≡ drawn 12 (drop n randoms) = b.0 ∙ ap (λ (i : ℕ). drawn i (drop n randoms)) salt_size in
-    let key_size : length key ≡ k = ap length key_is ∙ drawn-length n randoms ∙ sym is in
-    let front : take k (key ++ drop k room) ≡ drawn n randoms = take_at key (drop k room) k key_size ∙ key_is in
-    (λ i. record { key = front i; salt = salt_is i }, b.1 ∙ ap (λ (i : ℕ). Some (drop i (drop n randoms))) salt_size)
+    let key_size : length key ≡ n = ap length key_is ∙ drawn-length n randoms in
+    (take_at key (drop k room) n key_size ∙ key_is, a.1 ∙ ap (λ (i : ℕ). Some (drop i randoms)) part)
+
+-- a salt is filled
+pub salt_filled : (randoms room salt : List ℕ) (before after : Option (List ℕ)) → length room ≡ 12 → before ≡ Some randoms → Fills before after room salt
+    → (salt ≡ drawn 12 randoms) × (after ≡ Some (drop 12 randoms))
+salt_filled randoms room salt before after size known filled =
+    let a = fills_told randoms before after room salt known filled in
+    (a.0 ∙ ap (λ (i : ℕ). drawn i randoms) size, a.1 ∙ ap (λ (i : ℕ). Some (drop i randoms)) size)
+
+-- a key that stands in front, and a salt that was drawn behind it
+pub pair_drawn : (n k : ℕ) (randoms key salt : List ℕ) (pair : KeyAndSalt) → pair ≡ record { key = take k key; salt = salt } → k ≡ n → take n key ≡ drawn n randoms
+    → salt ≡ drawn 12 (drop n randoms) → pair ≡ drawn_pair n randoms
+pair_drawn n k randoms key salt pair is same key_is salt_is =
+    let front : take k key ≡ drawn n randoms = ap (λ (i : ℕ). take i key) same ∙ key_is in
+    let both : (record { key = take k key; salt = salt }) ≡ drawn_pair n randoms = λ i. record { key = front i; salt = salt_is i } in
+    is ∙ both
 
 -- a key in its room of 32 octets
 pub stored_room : (p : Profile) (key : List ℕ) → length key ≡ key_length p → length (stored key) ≡ 32

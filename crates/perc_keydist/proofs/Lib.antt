@@ -1,3 +1,4 @@
+pub mod CallLaws
 pub mod Feeding
 pub mod Feeds
 pub mod FoldLaws

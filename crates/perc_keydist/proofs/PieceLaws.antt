@@ -14,7 +14,7 @@ use Rattle.perc_keydist.specs.Distributing.{Heard, Fault, Replying, State, Turn,
 use Rattle.perc_keydist.specs.Feeding.{IsEnded, Reads}
 use Rattle.perc_keydist.specs.KeyDistributor.{Begins, EndsAt, IsTaken, KeyDistributor, Replies, Takes, heard, state_of}
 use Rattle.perc_keydist.specs.Pieces.{OneOutcome, TwoFeedsAreOne, added}
-use Rattle.perc_keydist.proofs.Running.{both_out, joined, reads_on, run_both, run_profile}
+use Rattle.perc_keydist.proofs.Running.{both_replied, joined, reads_on, run_both, run_profile}
 
 -- ---- how many left before changes nothing else
 
@@ -157,14 +157,14 @@ module _ (a : Answers) (k between : KeyDistributor) (l : Lists) (drawn : List �
   replies_both (Ok left) after accepted lists randoms r =
       subst (λ (t : Turn). IsDone t out after accepted lists randoms (n + left)) (sym both_is) (record {
         no_fault = r.no_fault;
-        replied = both_out first second out written after d.replied r.replied;
+        replied = both_replied first.replies second.replies out written after d.replied r.replied;
         accepts = r.accepts;
         keeps = r.keeps;
         draws = r.draws;
         leaves = ap (λ (m : ℕ). n + m) r.leaves;
       })
   replies_both (Err e) after accepted lists randoms r =
-      subst (λ (t : Turn). IsEnded t e out after lists randoms) (sym both_is) (record { replied = both_out first second out written after d.replied r.replied; brought = r.brought; stands = r.stands })
+      subst (λ (t : Turn). IsEnded t e out after lists randoms) (sym both_is) (record { replied = both_replied first.replies second.replies out written after d.replied r.replied; brought = r.brought; stands = r.stands })
 
 pub two_feeds : TwoFeedsAreOne
 two_feeds k between now front back n result answers lists kept later randoms rest behind before written after profile first second = (

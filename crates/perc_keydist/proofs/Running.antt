@@ -88,11 +88,11 @@ run_both a s (m ∷ messages) more randoms none =
     both_case a more t (run_of a t.state (map Heard messages) t.randoms) (run_of a t.state (map Heard (messages ++ more)) t.randoms) t.fault refl none
     (run_both a t.state messages more t.randoms)
 
-pub both_out : (t later : Turn) (out between after : List ℕ) → between ≡ out ++ flat_map spelling t.replies → after ≡ between ++ flat_map spelling later.replies
-    → after ≡ out ++ flat_map spelling (t.replies ++ later.replies)
-both_out t later out between after first second =
-    second ∙ ap (λ (xs : List ℕ). xs ++ flat_map spelling later.replies) first ∙ append_assoc out (flat_map spelling t.replies) (flat_map spelling later.replies)
-    ∙ ap (λ (xs : List ℕ). out ++ xs) (sym (flat_map-append spelling t.replies later.replies))
+pub both_replied : (front back : List TunnelMessage) (out between after : List ℕ) → between ≡ out ++ flat_map spelling front → after ≡ between ++ flat_map spelling back
+    → after ≡ out ++ flat_map spelling (front ++ back)
+both_replied front back out between after first second =
+    second ∙ ap (λ (xs : List ℕ). xs ++ flat_map spelling back) first ∙ append_assoc out (flat_map spelling front) (flat_map spelling back)
+    ∙ ap (λ (xs : List ℕ). out ++ xs) (sym (flat_map-append spelling front back))
 
 -- ---- what is read, and more behind it
 
@@ -144,7 +144,7 @@ module _ (old between : Desk) (messages : List TunnelMessage) (n : ℕ) (answers
           let g : IsDone later written after accepted now behind m =
           subst (λ (s : State). IsDone (run_of a s (map Heard more) ran.randoms) written after accepted now behind m) goes_on h in
           subst (λ (t : Turn). IsDone t out after accepted now behind m) (sym is_joined)
-          (record { no_fault = g.no_fault; replied = both_out ran later out written after done.replied g.replied; accepts = g.accepts; keeps = g.keeps; draws = g.draws; leaves = g.leaves })
+          (record { no_fault = g.no_fault; replied = both_replied ran.replies later.replies out written after done.replied g.replied; accepts = g.accepts; keeps = g.keeps; draws = g.draws; leaves = g.leaves })
 
       ended_on : (e : KdFault) (after : List ℕ) (now : Option Lists) (behind : Option (List ℕ))
           → IsEnded (run_of a (state_at between ran.state.lists (left + n)) (map Heard more) ran.randoms) e written after now behind
@@ -152,7 +152,7 @@ module _ (old between : Desk) (messages : List TunnelMessage) (n : ℕ) (answers
       ended_on e after now behind h =
           let g : IsEnded later e written after now behind = subst (λ (s : State). IsEnded (run_of a s (map Heard more) ran.randoms) e written after now behind) goes_on h in
           subst (λ (t : Turn). IsEnded t e out after now behind) (sym is_joined)
-          (record { replied = both_out ran later out written after done.replied g.replied; brought = g.brought; stands = g.stands })
+          (record { replied = both_replied ran.replies later.replies out written after done.replied g.replied; brought = g.brought; stands = g.stands })
 
   pub carries_on : {X : Type 0} (count : X → ℕ) (new : Desk) (more : List TunnelMessage) (x : X) (total : ℕ) (now : Option Lists) (behind : Option (List ℕ)) (after : List ℕ)
       → n + count x ≡ total → Carries count between new more (Ok x) told kept now rest behind written after
@@ -208,6 +208,15 @@ module _ (octets : List ℕ) (start : ℕ) (between now : Decoding) (old desk ne
     (second.1.0, second.1.1, reads_held second.0 second.1.0 second.1.1 second.1.2, second.1.3),
     ends_on old desk first.0 n answers told lists kept randoms rest out written first.2 same profile count new second.0 e later behind after second.2,
   )
+
+-- at first
+pub held_first : (decoding : Decoding) (desk : Desk) (answers : Option Answers) (lists : Option Lists) (randoms : Option (List ℕ)) (out : List ℕ) → decoding.fault ≡ None
+    → Feeds itself decoding.held decoding.given decoding desk desk (Ok 0) answers lists lists randoms randoms out out
+held_first decoding desk answers lists randoms out ready = (
+  [],
+  (record { each = All-nil IsMessage; spelled = refl; offset_is = sym (add-zero decoding.given) }, ready),
+  λ a l drawn left tells has draws. record { no_fault = refl; replied = sym (append-nil out); accepts = refl; keeps = has; draws = draws; leaves = add-zero left },
+)
 
 -- ---- the messages of octets that are fed piece after piece
 

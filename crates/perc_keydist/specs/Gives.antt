@@ -1,7 +1,8 @@
 -- What parts of the code give, where the keeper and the randoms tell what they hold.
 use Rattle.std.specs.List.{flat_map}
 use Rattle.std.specs.Option.{option_map}
-use Rattle.std.specs.Prelude.{◌≡◌, ℕ, nat_le, Bool, true, false, List, ◌++◌, map, Option, Some, None, IfSome, Result, Ok, Err, is_some}
+use Rattle.std.specs.Prelude.{◌≡◌, ℕ, nat_le, Bool, true, false, List, ◌++◌, drop, map, take, Option, Some, None, IfSome, Result, Ok, Err, is_some}
+use Rattle.perc_base.specs.Outside.{drawn}
 use Rattle.perc_base.specs.Profile.{key_length}
 use Rattle.perc_base.specs.declared.profile.Profile.{Profile}
 use Rattle.perc_kdf.specs.Derivation.{KeyAndSalt}
@@ -24,6 +25,16 @@ Gives part (Err e) lists left = IfSome (told_as e) (λ f. (part.answer ≡ Err f
 -- the members, where the lists are told
 abbrev pub members_told : Option Lists → Option (List MediaKeys)
 members_told = option_map (λ l. l.members)
+
+-- A key of this length was drawn, and stands in front.
+abbrev pub DrawsKey : ℕ → List ℕ → Result (List ℕ) KdFault → Option (List ℕ) → Type 0
+DrawsKey n randoms (Ok key) left = (take n key ≡ drawn n randoms) × (left ≡ Some (drop n randoms))
+DrawsKey n randoms (Err e) left = told_as e ≡ None
+
+-- A salt was drawn.
+abbrev pub DrawsSalt : List ℕ → Result (List ℕ) KdFault → Option (List ℕ) → Type 0
+DrawsSalt randoms (Ok salt) left = (salt ≡ drawn 12 randoms) × (left ≡ Some (drop 12 randoms))
+DrawsSalt randoms (Err e) left = told_as e ≡ None
 
 -- A key and its salt were drawn.
 abbrev pub Draws : Profile → List ℕ → Result KeyAndSalt KdFault → Option (List ℕ) → Type 0

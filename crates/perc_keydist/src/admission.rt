@@ -2,6 +2,7 @@
 ghost use Rattle.std.specs.Prelude.{◌≡◌, ◌≢◌, ℕ, ◌||◌, false, List, Some, Ok, Err, IfErr, IfOk, IsTrue};
 ghost use Rattle.perc_ekt.specs.Record.{IsRecord};
 ghost use Rattle.perc_keeper.specs.Lists.{HasKeys, Lists, is_member};
+ghost use Rattle.perc_keydist.specs.Calls.{FollowsTold, IsKept};
 ghost use Rattle.perc_keydist.specs.Causes.{Blames, is_of_keys};
 ghost use Rattle.perc_keydist.specs.Distributing as spec;
 ghost use Rattle.perc_keydist.specs.Gives.{Admits, DrawsKeys, Gives, TellsRepeats, members_told};
@@ -23,6 +24,8 @@ pub fn grant<K: Keeper, R: Randoms>(
 ) -> Result<EktKeyRecord, KdFault>
     ensures told { (l : Lists) (rs : List ℕ) → K.lists keeper.old ≡ Some l → R.left randoms.old ≡ Some rs
         → Gives (spec.grant profile l rs) result (K.lists keeper.new) (R.left randoms.new) }
+    ensures once { FollowsTold (K.lists keeper.old) (K.lists keeper.new) }
+    ensures kept { IfOk result (IsKept (K.lists keeper.old) (K.lists keeper.new)) }
     ensures right { IfOk result IsRecord }
     ensures members { members_told (K.lists keeper.new) ≡ members_told (K.lists keeper.old) }
     ensures keeper { Blames KdFault.Keeper (K.fault_count keeper.old) result (K.fault_count keeper.new) }
@@ -49,6 +52,7 @@ pub fn admit<K: Keeper, R: Randoms>(
     ensures told { (l : Lists) (rs : List ℕ) → K.lists keeper.old ≡ Some l → R.left randoms.old ≡ Some rs
         → Gives (spec.admitting l (spec.drawn_keys profile association.now rs) (spec.behind_keys profile rs)) result
         (K.lists keeper.new) (R.left randoms.new) }
+    ensures once { FollowsTold (K.lists keeper.old) (K.lists keeper.new) }
     ensures right { IfOk result HasKeys }
     ensures keeper { Blames KdFault.Keeper (K.fault_count keeper.old) result (K.fault_count keeper.new) }
     ensures randoms { Blames KdFault.Random (R.fault_count randoms.old) result (R.fault_count randoms.new) }

@@ -1,9 +1,13 @@
 // Messages: what each one brings.
-ghost use Rattle.std.specs.Prelude.{◌≡◌, ℕ, ◌+◌, false, List, Some, None, IfErr, IfOk, IsTrue, OnErr, length};
-ghost use Rattle.perc_keeper.specs.Lists.{HasKeys, Lists, is_member, newest};
+ghost use Rattle.std.specs.Prelude.{◌≡◌, ℕ, ◌+◌, false, List, Some, None, IfErr, IfOk, IfSome, IsTrue, OnErr, OnOk, length};
+ghost use Rattle.std.specs.Option.{option_map};
+ghost use Rattle.perc_ekt.specs.Record.{IsRecord};
+ghost use Rattle.perc_ekt.specs.declared.record.EktKeyRecord.{EktKeyRecord};
+ghost use Rattle.perc_keeper.specs.Lists.{HasKeys, Lists, is_member, newest, without_member};
 ghost use Rattle.perc_tunnel.specs.Message as tunnel;
 ghost use Rattle.perc_tunnel.specs.Told as told;
 ghost use Rattle.perc_keydist.specs.Answers.{Answers};
+ghost use Rattle.perc_keydist.specs.Calls.{FollowsTold, IsSaid, KeepsOnce};
 ghost use Rattle.perc_keydist.specs.Causes.{Blames, is_of_ends, is_of_keeping, is_of_offers, is_of_stream, is_of_welcomes};
 ghost use Rattle.perc_keydist.specs.Distributing as spec;
 ghost use Rattle.perc_keydist.specs.Gives.{Replied};
@@ -13,6 +17,7 @@ use crate::admission::{admit, grant};
 use crate::replies::{append_unsupported, append_welcome};
 use crate::{Handshake, Hello, KdFault};
 use perc_base::{Profile, Randoms};
+use perc_ekt::EktKeyRecord;
 use perc_keeper::Keeper;
 use perc_tunnel::{MediaKeys, Message, ProfileList};
 use std::alloc::Global;
@@ -54,6 +59,7 @@ impl Desk {
             → R.left randoms.old ≡ Some rs
             → Hears (spec.hear a (state_at self.old l left) rs (told.content_of message.now) (accepted_at self.old))
             count_of left result out.old.items out.new.items (accepted_at self.new) (K.lists keeper.new) (R.left randoms.new) }
+        ensures once { KeepsOnce (H.answers hand.old) (K.lists keeper.old) (K.lists keeper.new) out.old.items out.new.items }
         ensures refused { OnErr result (out.new.items ≡ out.old.items) }
         ensures profile { self.new.profile ≡ self.old.profile }
         ensures kept { H.answers hand.new ≡ H.answers hand.old }
@@ -91,6 +97,7 @@ impl Desk {
         ensures told { (a : Answers) (l : Lists) (rs : List ℕ) (left : ℕ)
             → Hears (spec.hear a (state_at self.old l left) rs
             (tunnel.SupportedProfiles version (told.numbers_of profiles.now)) (accepted_at self.old)) nobody left result out.old.items out.new.items (accepted_at self.new) (Some l) (Some rs) }
+        ensures said { (a : Answers) (issued : List EktKeyRecord) → IsSaid a issued out.old.items out.new.items }
         ensures refused { OnErr result (out.new.items ≡ out.old.items) }
         ensures profile { self.new.profile ≡ self.old.profile }
         ensures kinds { IfErr result (λ e. IsTrue (is_of_offers e)) }
@@ -120,6 +127,7 @@ impl Desk {
             → R.left randoms.old ≡ Some rs
             → Hears (spec.hear a (state_at self.now l left) rs (tunnel.TunneledDtls association.now octets.now) (accepted_at self.now))
             nobody left result out.old.items out.new.items (accepted_at self.now) (K.lists keeper.new) (R.left randoms.new) }
+        ensures once { KeepsOnce (H.answers hand.old) (K.lists keeper.old) (K.lists keeper.new) out.old.items out.new.items }
         ensures refused { OnErr result (out.new.items ≡ out.old.items) }
         ensures kept { H.answers hand.new ≡ H.answers hand.old }
         ensures keeper { Blames KdFault.Keeper (K.fault_count keeper.old) result (K.fault_count keeper.new) }
@@ -147,15 +155,27 @@ impl Desk {
         ensures told { (a : Answers) (l : Lists) (rs : List ℕ) (left : ℕ) (out : List ℕ) → K.lists keeper.old ≡ Some l
             → Hears (spec.hear a (state_at self.now l left) rs (tunnel.EndpointDisconnect association.now) (accepted_at self.now))
             count_of left result out out (accepted_at self.now) (K.lists keeper.new) (Some rs) }
+        ensures once { FollowsTold (K.lists keeper.old) (K.lists keeper.new) }
         ensures keeper { Blames KdFault.Keeper (K.fault_count keeper.old) result (K.fault_count keeper.new) }
         ensures kinds { IfErr result (λ e. IsTrue (is_of_ends e)) }
     {
         if self.accepted.is_none() {
             return Err(KdFault::Order(5));
         }
-        let has_left = keeper.leave(alloc, association)?;
-        Ok(has_left)
+        leave(alloc, association, keeper)
     }
+}
+
+// Lets a member go, and answers whether there was one.
+fn leave<K: Keeper>(alloc: Global, association: &[u8; 16], keeper: &mut K) -> Result<bool, KdFault>
+    ensures answer { IfOk result (λ has_left. IfSome (K.lists keeper.old) (λ l. has_left ≡ is_member l.members association.now)) }
+    ensures gone { OnOk result (K.lists keeper.new ≡ option_map (without_member association.now) (K.lists keeper.old)) }
+    ensures refused { OnErr result (K.lists keeper.new ≡ K.lists keeper.old) }
+    ensures keeper { Blames KdFault.Keeper (K.fault_count keeper.old) result (K.fault_count keeper.new) }
+    ensures kinds { IfErr result (λ e. IsTrue (is_of_keeping e)) }
+{
+    let has_left = keeper.leave(alloc, association)?;
+    Ok(has_left)
 }
 
 // Asks the handshake what a record brings.
@@ -194,6 +214,7 @@ fn join<K: Keeper, H: Handshake, R: Randoms>(
     ensures told { (a : Answers) (l : Lists) (rs : List ℕ) → H.answers hand.old ≡ Some a → K.lists keeper.old ≡ Some l
         → R.left randoms.old ≡ Some rs
         → Replied (spec.join a profile association.now l rs) result out.old.items out.new.items (K.lists keeper.new) (R.left randoms.new) }
+    ensures once { KeepsOnce (H.answers hand.old) (K.lists keeper.old) (K.lists keeper.new) out.old.items out.new.items }
     ensures refused { OnErr result (out.new.items ≡ out.old.items) }
     ensures kept { H.answers hand.new ≡ H.answers hand.old }
     ensures keeper { Blames KdFault.Keeper (K.fault_count keeper.old) result (K.fault_count keeper.new) }
@@ -219,16 +240,29 @@ fn welcome_again<K: Keeper, H: Handshake>(
     ensures told { (a : Answers) (l : Lists) (rs : List ℕ) → H.answers hand.old ≡ Some a → K.lists keeper.old ≡ Some l
         → Replied (spec.welcoming_again a keys.now l rs (newest l.issued)) result out.old.items out.new.items
         (K.lists keeper.new) (Some rs) }
+    ensures once { KeepsOnce (H.answers hand.old) (K.lists keeper.old) (K.lists keeper.new) out.old.items out.new.items }
     ensures refused { OnErr result (out.new.items ≡ out.old.items) }
     ensures kept { H.answers hand.new ≡ H.answers hand.old }
     ensures keeper { Blames KdFault.Keeper (K.fault_count keeper.old) result (K.fault_count keeper.new) }
     ensures hand { Blames KdFault.Handshake (H.fault_count hand.old) result (H.fault_count hand.new) }
     ensures kinds { IfErr result (λ e. IsTrue (is_of_welcomes e)) }
 {
-    match keeper.last(alloc)? {
+    match newest_record(alloc, keeper)? {
         Some(newest) => append_welcome(keys, &newest, hand, out),
         None => Ok(()),
     }
+}
+
+// The record of the newest EKT key, where one was issued.
+fn newest_record<K: Keeper>(alloc: Global, keeper: &mut K) -> Result<Option<EktKeyRecord>, KdFault>
+    ensures answer { IfOk result (λ r. IfSome (K.lists keeper.old) (λ l. r ≡ newest l.issued)) }
+    ensures right { IfOk result (λ r. IfSome r IsRecord) }
+    ensures same { K.lists keeper.new ≡ K.lists keeper.old }
+    ensures keeper { Blames KdFault.Keeper (K.fault_count keeper.old) result (K.fault_count keeper.new) }
+    ensures kinds { IfErr result (λ e. IsTrue (is_of_keeping e)) }
+{
+    let newest = keeper.last(alloc)?;
+    Ok(newest)
 }
 
 // Lets a stranger join, where there is room for it.
@@ -246,6 +280,7 @@ fn join_stranger<K: Keeper, H: Handshake, R: Randoms>(
         → R.left randoms.old ≡ Some rs
         → Replied (spec.join_of a profile association.now l rs None) result out.old.items out.new.items
         (K.lists keeper.new) (R.left randoms.new) }
+    ensures once { KeepsOnce (H.answers hand.old) (K.lists keeper.old) (K.lists keeper.new) out.old.items out.new.items }
     ensures refused { OnErr result (out.new.items ≡ out.old.items) }
     ensures kept { H.answers hand.new ≡ H.answers hand.old }
     ensures keeper { Blames KdFault.Keeper (K.fault_count keeper.old) result (K.fault_count keeper.new) }

@@ -8,6 +8,7 @@ ghost use Rattle.perc_tunnel.specs.Decoding.{fed, taken};
 ghost use Rattle.perc_tunnel.specs.Stream.{IsPart};
 ghost use Rattle.perc_tunnel.specs.Message.{spelling};
 ghost use Rattle.perc_keydist.specs.Answers.{Answers};
+ghost use Rattle.perc_keydist.specs.Calls.{KeepsOnce};
 ghost use Rattle.perc_keydist.specs.Causes.{Blames, is_of_keeping, is_of_replies, is_of_stream};
 ghost use Rattle.perc_keydist.specs.Distributing as spec;
 ghost use Rattle.perc_keydist.specs.Distributing.{State, rolling};
@@ -76,6 +77,7 @@ impl KeyDist {
             (K.lists keeper.old) (K.lists keeper.new) (R.left randoms.old) (R.left randoms.new) out.old.items out.new.items }
         ensures stopped { IfSome self.old.fault (λ f. HasStopped self.old f result self.new
             keeper.old keeper.new hand.old hand.new randoms.old randoms.new out.old.items out.new.items) }
+        ensures once { KeepsOnce (H.answers hand.old) (K.lists keeper.old) (K.lists keeper.new) out.old.items out.new.items }
         ensures octets { octets_taken self.new ≤ octets_taken self.old + length bytes.now }
         ensures profile { self.new.profile ≡ self.old.profile }
         ensures kept { H.answers hand.new ≡ H.answers hand.old }
@@ -113,6 +115,7 @@ impl KeyDist {
         ensures rolled { (a : Answers) (l : Lists) (drawn : List ℕ) → self.old.fault ≡ None → H.answers hand.old ≡ Some a
             → K.lists keeper.old ≡ Some l → R.left randoms.old ≡ Some drawn
             → Rolls (rolled a self.old l drawn) result out.old.items out.new.items (K.lists keeper.new) (R.left randoms.new) }
+        ensures once { KeepsOnce (H.answers hand.old) (K.lists keeper.old) (K.lists keeper.new) out.old.items out.new.items }
         ensures refused { OnErr result (out.new.items ≡ out.old.items) }
         ensures state { self.old.fault ≡ None → self.new ≡ record self.old { fault = result_err result } }
         ensures decoding { self.new.decoding ≡ self.old.decoding }
@@ -146,6 +149,7 @@ fn hear_next<K: Keeper, H: Handshake, R: Randoms>(
     requires { decoder.old.fault ≡ None }
     ensures heard { Feeds count_next decoder.old.held decoder.old.given decoder.new desk.old desk.new result (H.answers hand.old)
         (K.lists keeper.old) (K.lists keeper.new) (R.left randoms.old) (R.left randoms.new) out.old.items out.new.items }
+    ensures once { KeepsOnce (H.answers hand.old) (K.lists keeper.old) (K.lists keeper.new) out.old.items out.new.items }
     ensures ready { OnOk result (decoder.new.fault ≡ None) }
     ensures all { decoder.new.given + length decoder.new.held ≡ decoder.old.given + length decoder.old.held }
     ensures fewer { IfOk result (λ next. IfSome next (λ _. length decoder.new.held < length decoder.old.held)) }
@@ -180,6 +184,7 @@ fn hear_held<K: Keeper, H: Handshake, R: Randoms>(
     requires few { decoder.old.given + length decoder.old.held < 2 ^ 64 }
     ensures heard { Feeds itself decoder.old.held decoder.old.given decoder.new desk.old desk.new result (H.answers hand.old)
         (K.lists keeper.old) (K.lists keeper.new) (R.left randoms.old) (R.left randoms.new) out.old.items out.new.items }
+    ensures once { KeepsOnce (H.answers hand.old) (K.lists keeper.old) (K.lists keeper.new) out.old.items out.new.items }
     ensures ready { OnOk result (decoder.new.fault ≡ None) }
     ensures all { decoder.new.given + length decoder.new.held ≡ decoder.old.given + length decoder.old.held }
     ensures left { IfOk result (λ left. decoder.old.given + left ≤ decoder.new.given) }
@@ -227,6 +232,7 @@ fn hear_all<K: Keeper, H: Handshake, R: Randoms>(
     requires few { decoder.old.given + length decoder.old.held + length bytes.now < 2 ^ 64 }
     ensures heard { Feeds itself (decoder.old.held ++ bytes.now) decoder.old.given decoder.new desk.old desk.new result (H.answers hand.old)
         (K.lists keeper.old) (K.lists keeper.new) (R.left randoms.old) (R.left randoms.new) out.old.items out.new.items }
+    ensures once { KeepsOnce (H.answers hand.old) (K.lists keeper.old) (K.lists keeper.new) out.old.items out.new.items }
     ensures ready { OnOk result (decoder.new.fault ≡ None) }
     ensures all { decoder.new.given + length decoder.new.held ≤ decoder.old.given + length decoder.old.held + length bytes.now }
     ensures part { OnOk result (IsPart decoder.new.held) }
@@ -258,6 +264,7 @@ fn roll_on<K: Keeper, H: Handshake, R: Randoms>(
         → K.lists keeper.old ≡ Some s.lists → R.left randoms.old ≡ Some drawn
         → Rolls (rolling a s (spec.issue profile s.lists drawn)) result out.old.items out.new.items
         (K.lists keeper.new) (R.left randoms.new) }
+    ensures once { KeepsOnce (H.answers hand.old) (K.lists keeper.old) (K.lists keeper.new) out.old.items out.new.items }
     ensures refused { OnErr result (out.new.items ≡ out.old.items) }
     ensures kept { H.answers hand.new ≡ H.answers hand.old }
     ensures keeper { Blames KdFault.Keeper (K.fault_count keeper.old) result (K.fault_count keeper.new) }

@@ -6,9 +6,10 @@ ghost use Rattle.perc_ekt.specs.Key.{stored};
 ghost use Rattle.perc_ekt.specs.Record.{IsRecord};
 ghost use Rattle.perc_kdf.specs.Derivation.{IsMasterLength};
 ghost use Rattle.perc_keeper.specs.Lists.{Lists, newest};
+ghost use Rattle.perc_keydist.specs.Calls.{FollowsTold, IsKept};
 ghost use Rattle.perc_keydist.specs.Causes.{Blames, is_of_keys};
 ghost use Rattle.perc_keydist.specs.Distributing as spec;
-ghost use Rattle.perc_keydist.specs.Gives.{Draws, Gives, IsDue, Keeps, members_told};
+ghost use Rattle.perc_keydist.specs.Gives.{Draws, DrawsKey, DrawsSalt, Gives, IsDue, Keeps, members_told};
 
 use crate::KdFault;
 use perc_base::{Profile, Randoms};
@@ -29,6 +30,8 @@ pub fn issue<K: Keeper, R: Randoms>(
 ) -> Result<EktKeyRecord, KdFault>
     ensures told { (l : Lists) (rs : List ℕ) → K.lists keeper.old ≡ Some l → R.left randoms.old ≡ Some rs
         → Gives (spec.issue profile l rs) result (K.lists keeper.new) (R.left randoms.new) }
+    ensures once { FollowsTold (K.lists keeper.old) (K.lists keeper.new) }
+    ensures kept { IfOk result (IsKept (K.lists keeper.old) (K.lists keeper.new)) }
     ensures right { IfOk result IsRecord }
     ensures members { members_told (K.lists keeper.new) ≡ members_told (K.lists keeper.old) }
     ensures keeper { Blames KdFault.Keeper (K.fault_count keeper.old) result (K.fault_count keeper.new) }
@@ -73,12 +76,32 @@ pub fn draw_pair<R: Randoms>(profile: Profile, randoms: &mut R) -> Result<Master
     ensures randoms { Blames KdFault.Random (R.fault_count randoms.old) result (R.fault_count randoms.new) }
     ensures kinds { IfErr result (λ e. e ≡ KdFault.Random) }
 {
+    let key = draw_key(profile, randoms)?;
+    let salt = draw_salt(randoms)?;
+    Ok(pair_of(&key[..profile.key_len()], &salt))
+}
+
+// Draws a key of the profile's length, which stands in front.
+fn draw_key<R: Randoms>(profile: Profile, randoms: &mut R) -> Result<[u8; 32], KdFault>
+    ensures told { (rs : List ℕ) → R.left randoms.old ≡ Some rs → DrawsKey (key_length profile) rs result (R.left randoms.new) }
+    ensures size { IfOk result (λ key. length key ≡ 32) }
+    ensures randoms { Blames KdFault.Random (R.fault_count randoms.old) result (R.fault_count randoms.new) }
+    ensures kinds { IfErr result (λ e. e ≡ KdFault.Random) }
+{
     let mut key = [0; 32];
+    fill(&mut key[..profile.key_len()], randoms)?;
+    Ok(key)
+}
+
+// Draws a salt.
+fn draw_salt<R: Randoms>(randoms: &mut R) -> Result<[u8; 12], KdFault>
+    ensures told { (rs : List ℕ) → R.left randoms.old ≡ Some rs → DrawsSalt rs result (R.left randoms.new) }
+    ensures randoms { Blames KdFault.Random (R.fault_count randoms.old) result (R.fault_count randoms.new) }
+    ensures kinds { IfErr result (λ e. e ≡ KdFault.Random) }
+{
     let mut salt = [0; 12];
-    let len = profile.key_len();
-    fill(&mut key[..len], randoms)?;
     fill(&mut salt, randoms)?;
-    Ok(pair_of(&key[..len], &salt))
+    Ok(salt)
 }
 
 fn pair_of(key: &[u8], salt: &[u8; 12]) -> Master

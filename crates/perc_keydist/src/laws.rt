@@ -1,6 +1,7 @@
 //! What holds of clear records, and of what a key distributor keeps. The functions do nothing: their contracts are the laws.
 ghost use Rattle.std.specs.Prelude.{◌≡◌, ◌<◌, ℕ, List, Some, slice_index};
 ghost use Rattle.perc_base.specs.declared.profile.Profile.{Profile};
+ghost use Rattle.perc_keydist.specs.Calls.{BeginsOnce, CallsAreSafe};
 ghost use Rattle.perc_keydist.specs.IssuedOnce.{EventsAreSafe, RunsAreSafe};
 ghost use Rattle.perc_keydist.specs.Pieces.{OneOutcome, TwoFeedsAreOne};
 ghost use Rattle.perc_keydist.specs.Rows.{WorkedRows};
@@ -22,6 +23,14 @@ pub fn issued_once()
 /// Nor are they over any key distributors one after another, each of which goes on from what is kept.
 pub fn one_after_another()
     ensures { RunsAreSafe }
+{}
+
+/// Nor are they over any calls one after another over one keeper that tells its lists, of any key distributors, whatever fails in
+/// them: what was kept before stands still, and each record that was sent was made for an EKT key that is kept. The clause `once` of
+/// `feed` and `roll` says that each is such a call.
+pub fn calls_in_a_row()
+    ensures safe { CallsAreSafe }
+    ensures begins { BeginsOnce }
 {}
 
 /// Octets fed in pieces are done as those fed whole: two feeds one after the other, of which the first brought no fault, are one

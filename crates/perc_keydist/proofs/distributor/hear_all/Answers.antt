@@ -1,12 +1,14 @@
 use Rattle.std.proofs.Common.{◌≡◌, refl, ap, rules, arith}
 use Rattle.std.proofs.lemmas.Result.{err_from_is_err_and}
 use Rattle.perc_tunnel.specs.Decoding.{Decoding}
+use Rattle.perc_keydist.proofs.CallLaws.{once_on, once_same}
 use Rattle.perc_keydist.proofs.Running.{goes_fed, goes_first, goes_on_held, goes_wrong}
 use Rattle.perc_keydist.proofs.distributor.hear_all.Goals as goal
 
 pub loop-rest-init : goal.loop-rest-init
 loop-rest-init g c = record {
   heard = goes_first c.args.decoder.now c.args.bytes.now c.args.desk.now _ _ _ _;
+  once = once_same _ _ _ _ _ refl refl;
   ready = c.requires.ready;
   part = c.requires.part;
   all = refl;
@@ -40,6 +42,8 @@ loop-rest-preserved g c =
       heard = goes_on_held _ _ c.args.desk.now c.loop-rest.desk c.loop-rest.left _ _ _ _ _ _ _ f.new.decoder c.hear_held.new.decoder f.result.now c.hear_held.new.desk _ _ _ _ first i.kept
           i.profile
           c.in_ok-left.field-0 _ refl c.in_ok-left.ensures.heard;
+      once = once_on (g.H.Handshake.answers c.args.hand.now) (g.H.Handshake.answers c.loop-rest.hand) (g.K.Keeper.lists c.args.keeper.now) (g.K.Keeper.lists c.loop-rest.keeper)
+          (g.K.Keeper.lists c.hear_held.new.keeper) c.args.out.now.items c.loop-rest.out.items c.hear_held.new.out.items c.loop-rest.invariant.once c.loop-rest.invariant.kept c.hear_held.ensures.once;
       ready = search rules;
       part = search rules;
       all = omega (arith, given, c.in_ok-left.ensures.all, f.ensures.all, i.all);
@@ -50,3 +54,8 @@ loop-rest-preserved g c =
       hand = search rules;
       randoms = search rules;
     }
+
+pub returns-in_err-left-clause-once : goal.returns-in_err-left-clause-once
+returns-in_err-left-clause-once g c =
+    once_on (g.H.Handshake.answers c.args.hand.now) (g.H.Handshake.answers c.loop-rest.hand) (g.K.Keeper.lists c.args.keeper.now) (g.K.Keeper.lists c.loop-rest.keeper)
+    (g.K.Keeper.lists c.hear_held.new.keeper) c.args.out.now.items c.loop-rest.out.items c.hear_held.new.out.items c.loop-rest.invariant.once c.loop-rest.invariant.kept c.hear_held.ensures.once

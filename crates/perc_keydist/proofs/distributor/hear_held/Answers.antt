@@ -1,8 +1,23 @@
-use Rattle.std.proofs.Common.{◌≡◌, ℕ, ◌+◌, ◌<◌, ◌≤◌, Bool, Option, IfSome, length, sym, ap, subst, ◌∙◌, add-zero, rules, arith}
+use Rattle.std.proofs.Common.{◌≡◌, ℕ, ◌+◌, ◌<◌, ◌≤◌, Bool, Option, IfSome, length, sym, ap, subst, ◌∙◌, add-zero, rules, arith, refl}
 use Rattle.std.proofs.lemmas.Result.{err_from_is_err_and}
 use Rattle.perc_keydist.specs.Feeding.{count_next}
-use Rattle.perc_keydist.proofs.Running.{at_most_one, counts, held_ends, held_on}
+use Rattle.perc_keydist.proofs.CallLaws.{once_on, once_same}
+use Rattle.perc_keydist.proofs.Running.{at_most_one, counts, held_ends, held_first, held_on}
 use Rattle.perc_keydist.proofs.distributor.hear_held.Goals as goal
+
+pub loop-has_left-init : goal.loop-has_left-init
+loop-has_left-init g c = record {
+  heard = held_first c.args.decoder.now c.args.desk.now _ _ _ _ c.requires.ready;
+  once = once_same _ _ _ _ _ refl refl;
+  ready = c.requires.ready;
+  all = refl;
+  few = omega arith;
+  profile = refl;
+  kept = refl;
+  keeper = omega arith;
+  hand = omega arith;
+  randoms = omega arith;
+}
 
 pub returns-in_err-has_left-clause-heard : goal.returns-in_err-has_left-clause-heard
 returns-in_err-has_left-clause-heard g c =
@@ -29,6 +44,8 @@ loop-has_left-preserved g c =
       heard = held_on c.args.decoder.now.held c.args.decoder.now.given c.loop-has_left.decoder c.hear_next.new.decoder c.args.desk.now c.loop-has_left.desk c.hear_next.new.desk
           c.loop-has_left.left
           _ _ _ _ _ _ _ _ _ _ _ i.heard i.kept i.profile count_next c.in_ok-has_left.field-0 _ (ap (λ (k : ℕ). c.loop-has_left.left + k) count) c.in_ok-has_left.ensures.heard;
+      once = once_on (g.H.Handshake.answers c.args.hand.now) (g.H.Handshake.answers c.loop-has_left.hand) (g.K.Keeper.lists c.args.keeper.now) (g.K.Keeper.lists c.loop-has_left.keeper)
+          (g.K.Keeper.lists c.hear_next.new.keeper) c.args.out.now.items c.loop-has_left.out.items c.hear_next.new.out.items c.loop-has_left.invariant.once c.loop-has_left.invariant.kept c.hear_next.ensures.once;
       ready = search rules;
       all = c.in_ok-has_left.ensures.all ∙ i.all;
       few = omega (arith, i.few, c.in_ok-has_left.ensures.all, fewer, one);
@@ -38,3 +55,13 @@ loop-has_left-preserved g c =
       hand = search rules;
       randoms = search rules;
     }
+
+pub returns-in_err-has_left-clause-once : goal.returns-in_err-has_left-clause-once
+returns-in_err-has_left-clause-once g c =
+    once_on (g.H.Handshake.answers c.args.hand.now) (g.H.Handshake.answers c.loop-has_left.hand) (g.K.Keeper.lists c.args.keeper.now) (g.K.Keeper.lists c.loop-has_left.keeper)
+    (g.K.Keeper.lists c.hear_next.new.keeper) c.args.out.now.items c.loop-has_left.out.items c.hear_next.new.out.items c.loop-has_left.invariant.once c.loop-has_left.invariant.kept c.hear_next.ensures.once
+
+pub returns-clause-once : goal.returns-clause-once
+returns-clause-once g c =
+    once_on (g.H.Handshake.answers c.args.hand.now) (g.H.Handshake.answers c.loop-has_left.hand) (g.K.Keeper.lists c.args.keeper.now) (g.K.Keeper.lists c.loop-has_left.keeper)
+    (g.K.Keeper.lists c.hear_next.new.keeper) c.args.out.now.items c.loop-has_left.out.items c.hear_next.new.out.items c.loop-has_left.invariant.once c.loop-has_left.invariant.kept c.hear_next.ensures.once

@@ -1,7 +1,8 @@
-use Rattle.std.proofs.Common.{◌≡◌, Option, Result, Ok, ap, ◌∙◌}
+use Rattle.std.proofs.Common.{◌≡◌, Option, Result, Ok, ap, ◌∙◌, refl}
 use Rattle.std.proofs.lemmas.Result.{err_from_is_err_and}
 use Rattle.perc_tunnel.specs.declared.decoder.TunnelFault.{TunnelFault}
 use Rattle.perc_tunnel.specs.declared.message.Message.{Message}
+use Rattle.perc_keydist.proofs.CallLaws.{once_same}
 use Rattle.perc_keydist.proofs.Feeding.{next_done, next_failed, next_fewer, next_none, next_wrong, none_part}
 use Rattle.perc_keydist.proofs.distributor.hear_next.Goals as goal
 
@@ -37,3 +38,9 @@ pub returns-in-Err-clause-heard : goal.returns-in-Err-clause-heard
 returns-in-Err-clause-heard g c =
     next_wrong c.args.decoder.now c.next.follows.lender-at-none c.next.result c.next.follows.holds-at-none c.in-Err.fault c.in-Err.is c.requires
     c.args.desk.now _ _ _ _
+
+pub returns-in-Ok-None-clause-once : goal.returns-in-Ok-None-clause-once
+returns-in-Ok-None-clause-once g c = once_same _ _ _ _ _ refl refl
+
+pub returns-in-Err-clause-once : goal.returns-in-Err-clause-once
+returns-in-Err-clause-once g c = once_same _ _ _ _ _ refl refl

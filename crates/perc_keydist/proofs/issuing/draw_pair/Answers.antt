@@ -1,10 +1,11 @@
-use Rattle.std.proofs.Common.{refl, ◌∙◌}
-use Rattle.perc_keydist.proofs.IssuingLaws.{drawn_two}
+use Rattle.std.proofs.Common.{drop, rules}
+use Rattle.perc_base.specs.Profile.{key_length}
+use Rattle.perc_keydist.proofs.IssuingLaws.{pair_drawn}
 use Rattle.perc_keydist.proofs.issuing.draw_pair.Goals as goal
 
 pub returns-clause-told : goal.returns-clause-told
 returns-clause-told g c = λ rs known.
-    let two = drawn_two c.args.profile rs c.key_len-len.result _ _ c.fill.new.into c.fill-2.new.into (g.R.Randoms.left c.args.randoms.now) (g.R.Randoms.left c.fill.new.randoms)
-    (g.R.Randoms.left c.fill-2.new.randoms)
-    c.key_len-len.ensures refl refl known c.in_ok-fill.ensures.octets c.in_ok-fill-2.ensures.octets in
-    (c.pair_of.ensures ∙ two.0, two.1)
+    let n = key_length c.args.profile in
+    let k = c.in_ok-key.ensures.told rs (search (rules, known)) in
+    let s = c.in_ok-salt.ensures.told (drop n rs) (search (rules, k.1)) in
+    (pair_drawn n c.key_len.result rs c.in_ok-key.key c.in_ok-salt.salt c.pair_of.result c.pair_of.ensures c.key_len.ensures k.0 s.0, search (rules, s.1))

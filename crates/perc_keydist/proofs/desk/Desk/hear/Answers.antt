@@ -4,6 +4,7 @@ use Rattle.perc_tunnel.specs.declared.message.Message.{Message}
 use Rattle.perc_tunnel.specs.Told.{content_of}
 use Rattle.perc_keydist.specs.Desks.{accepted_at, count_of, state_at}
 use Rattle.perc_keydist.specs.Distributing.{hear}
+use Rattle.perc_keydist.proofs.CallLaws.{once_said, once_same, once_silent}
 use Rattle.perc_keydist.proofs.Hearing.{heard_with}
 use Rattle.perc_keydist.proofs.desk.Desk.hear.Goals as goal
 
@@ -25,3 +26,18 @@ returns-in-EndpointDisconnect-clause-told g c = λ a l rs left told known drawn.
     let s = state_at c.args.self.now l left in
     heard_with _ _ count_of left c.end.result c.args.out.now.items c.args.out.now.items (accepted_at c.args.self.now) _ _ _ _
     (ap (λ (m : Message). hear a s rs (content_of m) (accepted_at c.args.self.now)) c.in-EndpointDisconnect.is) refl drawn (c.end.ensures.told a l rs left c.args.out.now.items known)
+
+pub returns-in_err-accept-in-SupportedProfiles-clause-once : goal.returns-in_err-accept-in-SupportedProfiles-clause-once
+returns-in_err-accept-in-SupportedProfiles-clause-once g c = once_said _ _ _ _ c.accept.ensures.said
+
+pub returns-in_ok-accept-in-SupportedProfiles-clause-once : goal.returns-in_ok-accept-in-SupportedProfiles-clause-once
+returns-in_ok-accept-in-SupportedProfiles-clause-once g c = once_said _ _ _ _ c.accept.ensures.said
+
+pub returns-in-UnsupportedVersion-clause-once : goal.returns-in-UnsupportedVersion-clause-once
+returns-in-UnsupportedVersion-clause-once g c = once_same _ _ _ _ _ refl refl
+
+pub returns-in-MediaKeys-clause-once : goal.returns-in-MediaKeys-clause-once
+returns-in-MediaKeys-clause-once g c = once_same _ _ _ _ _ refl refl
+
+pub returns-in-EndpointDisconnect-clause-once : goal.returns-in-EndpointDisconnect-clause-once
+returns-in-EndpointDisconnect-clause-once g c = once_silent _ _ _ _ _ c.end.ensures.once refl
