@@ -1,0 +1,5 @@
+use Rattle.std.proofs.Common.{◌≤◌}
+use Rattle.perc_drawing.proofs.report.note_all.Given as goal
+
+abbrev pub invariant-loop-number : goal.invariant-loop-number
+invariant-loop-number g l = g.I.Source.fault_count l.initial.input ≤ g.I.Source.fault_count l.input

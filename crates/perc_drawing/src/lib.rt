@@ -1,0 +1,18 @@
+//! A report of a conference, drawn as a sequence diagram in SVG.
+#![tactic(auto)]
+
+mod canvas;
+mod columns;
+mod drawing;
+mod element;
+mod layout;
+mod markup;
+mod picture;
+mod report;
+mod row;
+mod shapes;
+mod top;
+
+pub use markup::escape;
+pub use report::{DrawEnd, draw_report};
+pub use top::{Status, run};

@@ -1,0 +1,352 @@
+// A picture of a report: columns and rows, noted line by line and drawn at the end.
+ghost use Rattle.std.specs.Prelude.{IfOk};
+ghost use Rattle.perc_drawing.specs.Element.{IsPicture};
+
+use super::canvas::Canvas;
+use super::columns::Columns;
+use super::drawing::draw_row;
+use super::layout::{SPACING, TOP, place_of, width_of};
+use super::markup::Word;
+use super::row::{Outcome, Row, Saying, Way, What, shown_of};
+use super::shapes::{boxed, line, rules, text};
+use perc_report_line::{Denial, Loss, Refusal, ReportLine};
+use perc_word::{Name, Octets};
+use std::alloc::{AllocError, Global};
+use std::collections::BTreeMap;
+
+/// How many rows are drawn at most.
+const MOST_ROWS: usize = 1000;
+
+/// How many octets a datagram has at most that a line spells.
+const MOST_OCTETS: usize = 4096;
+
+/// What is drawn of a report: the first thousand rows, and what later lines tell of their datagrams.
+#[derive(Drop)]
+pub struct Picture {
+    alloc: Global,
+    columns: Columns,
+    rows: Vec<Row>,
+    /// The row of a datagram, by its number.
+    places: BTreeMap<u32, usize>,
+    /// Room for the octets of a datagram.
+    room: Vec<u8>,
+    /// How many lines aren't drawn.
+    more: u64,
+}
+
+impl Picture {
+    /// A picture of nothing.
+    pub fn new(alloc: Global) -> Result<Picture, AllocError> {
+        Ok(Picture {
+            alloc,
+            columns: Columns::new(alloc),
+            rows: Vec::new(alloc),
+            places: BTreeMap::new(alloc),
+            room: vec![in alloc; 0; MOST_OCTETS]?,
+            more: 0,
+        })
+    }
+
+    /// Notes a line of the report, by its number.
+    pub fn note(&mut self, line: u64, report: &ReportLine<'_>) -> Result<(), AllocError> {
+        match report {
+            ReportLine::Ekt { spi } => self.row(
+                line,
+                None,
+                mark(b"EKT key: SPI", Some(u64::from(*spi))),
+            ),
+            ReportLine::Joined {
+                name,
+                association: _,
+            } => self.row(line, Some(name), mark(b"joined", None)),
+            ReportLine::Left { name } => self.row(line, Some(name), mark(b"left", None)),
+            ReportLine::Granted { name, spi } => {
+                self.row(
+                    line,
+                    Some(name),
+                    mark(b"granted: SPI", Some(u64::from(*spi))),
+                )
+            }
+            ReportLine::Denied { name, reason } => self.row(line, Some(name), denied(*reason)),
+            ReportLine::Rekeyed { name, spi, epoch } => {
+                self.row(line, Some(name), rekeyed(*spi, *epoch))
+            }
+            ReportLine::WireUp {
+                datagram,
+                name,
+                octets,
+            } => self.wire(line, Way::Up, *datagram, Some(name), octets),
+            ReportLine::WireMade { datagram, octets } => {
+                self.wire(line, Way::Made, *datagram, None, octets)
+            }
+            ReportLine::WireReseal {
+                datagram,
+                name,
+                octets,
+            } => self.wire(line, Way::Reseal, *datagram, Some(name), octets),
+            ReportLine::WireDown {
+                datagram,
+                name,
+                octets,
+            } => self.wire(line, Way::Down, *datagram, Some(name), octets),
+            ReportLine::Dropped {
+                datagram,
+                name,
+                reason,
+            } => self.outcome(line, *datagram, Some(name), None, dropped(*reason)),
+            ReportLine::RefuseMedia { datagram, reason } => {
+                self.outcome(line, *datagram, None, None, refused(*reason))
+            }
+            ReportLine::Accept {
+                datagram,
+                name,
+                sender,
+                sent,
+                pt: _,
+                seq: _,
+                marker: _,
+                timestamp: _,
+                payload: _,
+            } => {
+                self.outcome(
+                    line,
+                    *datagram,
+                    Some(name),
+                    Some(sender),
+                    accepted(b"", u64::from(*sent)),
+                )
+            },
+            ReportLine::Rtcp {
+                datagram,
+                name,
+                octets,
+            } => self.outcome(
+                line,
+                *datagram,
+                Some(name),
+                None,
+                accepted(b"RTCP of length", octets.len() as u64),
+            ),
+            ReportLine::Refuse {
+                datagram,
+                name,
+                reason,
+            } => self.outcome(line, *datagram, Some(name), None, refused(*reason)),
+        }
+    }
+
+    // The column of a name, or the distributor's. None where there is no room for another.
+    fn column(&mut self, name: Option<&Name>) -> Result<Option<usize>, AllocError> {
+        match name {
+            Some(name) => self.columns.of(name),
+            None => Ok(Some(0)),
+        }
+    }
+
+    // Adds a row at a name, or at the distributor, where there is room, and counts the line where there is none.
+    fn row(&mut self, line: u64, name: Option<&Name>, what: What) -> Result<(), AllocError> {
+        if self.rows.len() < MOST_ROWS {
+            if let Some(column) = self.column(name)? {
+                self.rows.push(Row::new(self.alloc, line, column, what))?;
+                return Ok(());
+            }
+        }
+        Ok(self.pass_over())
+    }
+
+    // Adds a datagram from or to a name.
+    fn wire(
+        &mut self,
+        line: u64,
+        way: Way,
+        datagram: u32,
+        name: Option<&Name>,
+        octets: &Octets<'_>,
+    ) -> Result<(), AllocError> {
+        let place = self.rows.len();
+        let shown = shown_of(octets, self.room.as_mut_slice());
+        let what = What::Wire {
+            way,
+            datagram,
+            shown,
+        };
+        self.row(line, name, what)?;
+        if place < self.rows.len() {
+            self.places.insert(datagram, place)?;
+        }
+        Ok(())
+    }
+
+    // Adds what became of a datagram at a name, or at the distributor, with the name of the sender of what was accepted: below its
+    // arrow, or in a row of its own where it has none.
+    fn outcome(
+        &mut self,
+        line: u64,
+        datagram: u32,
+        name: Option<&Name>,
+        sender: Option<&Name>,
+        mut saying: Saying,
+    ) -> Result<(), AllocError> {
+        let place = self.places.get(&datagram).copied();
+        if place.is_none() && self.rows.len() >= MOST_ROWS {
+            return Ok(self.pass_over());
+        }
+        saying.sender = match sender {
+            Some(sender) => self.columns.of(sender)?,
+            None => None,
+        };
+        match place {
+            Some(place) => self.below(place, line, name, saying),
+            None => self.row(line, name, What::Late { datagram, saying }),
+        }
+    }
+
+    // Adds an outcome to the row at a place.
+    fn below(
+        &mut self,
+        place: usize,
+        line: u64,
+        name: Option<&Name>,
+        saying: Saying,
+    ) -> Result<(), AllocError> {
+        let at = self.column(name)?;
+        match (at, self.rows.get_mut(place)) {
+            (Some(at), Some(row)) => row.add(Outcome { line, at, saying }),
+            _ => Ok(self.pass_over()),
+        }
+    }
+
+    // Counts a line that isn't drawn.
+    fn pass_over(&mut self) {
+        self.more = self.more.saturating_add(1);
+    }
+
+    // Where the rows end.
+    fn bottom(&self) -> u64 {
+        let mut y = TOP;
+        for row in self.rows.as_slice() {
+            y = y.saturating_add(row.height());
+        }
+        y
+    }
+
+    /// The picture.
+    pub fn drawn(&self) -> Result<Vec<u8>, AllocError>
+        ensures { IfOk result (λ picture. IsPicture picture.items) }
+    {
+        let bottom = self.bottom().saturating_add(10);
+        let width = width_of(self.columns.count());
+        let height = bottom.saturating_add(60);
+        let mut out = Canvas::new(self.alloc, width, height)?;
+        rules(&mut out)?;
+        boxed(&mut out, b"page", width / 2, 0, width, height)?;
+        draw_columns(&mut out, &self.columns, bottom)?;
+        draw_rows(&mut out, &self.columns, self.rows.as_slice())?;
+        draw_more(&mut out, self.more, bottom)?;
+        out.finish()
+    }
+}
+
+// Something that happened, in words.
+fn told(
+    class: &'static [u8],
+    verb: &'static [u8],
+    reason: &'static [u8],
+    number: Option<u64>,
+) -> Saying {
+    Saying {
+        class,
+        lead: b"at ",
+        verb,
+        sender: None,
+        reason,
+        number,
+        epoch: None,
+    }
+}
+
+// Something that happened at a column, with a number where there is one.
+fn mark(verb: &'static [u8], number: Option<u64>) -> What {
+    What::Mark(told(b"mark", verb, b"", number))
+}
+
+// A member took a key of its own.
+fn rekeyed(spi: u16, epoch: u16) -> What {
+    let mut saying = told(b"mark", b"rekeyed: SPI", b"", Some(u64::from(spi)));
+    saying.epoch = Some(u64::from(epoch));
+    What::Mark(saying)
+}
+
+// A key was denied to a member.
+fn denied(denial: Denial) -> What {
+    What::Mark(told(b"refused", b"denied: ", denial.text(), denial.number()))
+}
+
+// A datagram was refused.
+fn refused(refusal: Refusal) -> Saying {
+    told(b"refused", b"refused: ", refusal.text(), refusal.number())
+}
+
+// A datagram wasn't sent on to a member.
+fn dropped(loss: Loss) -> Saying {
+    let mut saying = told(b"dropped", b"dropped: ", loss.text(), loss.number());
+    saying.lead = b"for ";
+    saying
+}
+
+// A datagram was accepted, with a number.
+fn accepted(what: &'static [u8], number: u64) -> Saying {
+    told(b"accepted", b"accepted: ", what, Some(number))
+}
+
+// Draws the columns with their names at both ends.
+fn draw_columns(out: &mut Canvas, columns: &Columns, bottom: u64) -> Result<(), AllocError> {
+    draw_column(out, b"distributor", SPACING, bottom)?;
+    let mut x = SPACING;
+    for name in columns.names() {
+        x = x.saturating_add(SPACING);
+        draw_column(out, name.as_bytes(), x, bottom)?;
+    }
+    Ok(())
+}
+
+// Draws a column with its name at both ends.
+fn draw_column(out: &mut Canvas, name: &[u8], x: u64, bottom: u64) -> Result<(), AllocError> {
+    line(out, b"column", b"none", (x, 40), (x, bottom))?;
+    let words = [Word::Octets(name)];
+    for top in [16, bottom] {
+        boxed(out, b"name", x, top, 136, 26)?;
+        text(out, b"name", b"middle", x, top.saturating_add(18), &words)?;
+    }
+    Ok(())
+}
+
+// Draws rows, one below another.
+fn draw_rows(out: &mut Canvas, columns: &Columns, rows: &[Row]) -> Result<(), AllocError> {
+    let mut y = TOP;
+    for row in rows {
+        draw_row(out, columns, row, y)?;
+        y = y.saturating_add(row.height());
+    }
+    Ok(())
+}
+
+// Draws how many lines aren't drawn, where there are any.
+fn draw_more(out: &mut Canvas, more: u64, bottom: u64) -> Result<(), AllocError> {
+    if more == 0 {
+        return Ok(());
+    }
+    let words = [
+        Word::Octets(b"Cut after 1000 rows: "),
+        Word::Number(more),
+        Word::Octets(b" more lines of the report aren't drawn."),
+    ];
+    text(
+        out,
+        b"refused",
+        b"start",
+        place_of(0),
+        bottom.saturating_add(46),
+        &words,
+    )
+}

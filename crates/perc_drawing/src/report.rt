@@ -1,0 +1,123 @@
+// A report read line by line, and its picture written.
+ghost use Rattle.std.specs.Prelude.{◌≡◌, ◌≢◌, ◌≤◌, ◌++◌, ℕ, List, Some, IfSome, IfOk, IfErr};
+ghost use Rattle.perc_base.specs.Outside.{HasRisen};
+ghost use Rattle.perc_drawing.specs.Element.{IsPicture};
+
+use super::picture::Picture;
+use perc_base::{Failed, LineRead, Lines, Sink, Source, write_all};
+use perc_report_line::ReportLine;
+use std::alloc::Global;
+
+/// How the drawing of a report ends.
+#[derive(Clone, Copy)]
+pub enum DrawEnd {
+    /// The whole report was read, and its picture written.
+    Done,
+    /// The line of this number, counted from 1, is no line of a report.
+    NotReport(u64),
+    /// A read failed.
+    ReadFault,
+    /// A write failed.
+    WriteFault,
+    /// No memory was found.
+    Memory,
+}
+
+/// Reads a report, and writes its picture. Nothing is written before the whole report is read.
+pub fn draw_report<I: Source, O: Sink>(alloc: Global, input: &mut I, out: &mut O) -> DrawEnd
+    // A whole picture is written, or nothing, but where a write fails.
+    ensures picture { result ≡ DrawEnd.Done → IfSome (O.written out.old) (λ before.
+        (picture : List ℕ) × (O.written out.new ≡ Some (before ++ picture)) × IsPicture picture) }
+    ensures nothing { result ≢ DrawEnd.Done → result ≢ DrawEnd.WriteFault → O.written out.new ≡ O.written out.old }
+    // A fault comes only where a call failed.
+    ensures read_fault { result ≡ DrawEnd.ReadFault → HasRisen (I.fault_count input.old) (I.fault_count input.new) }
+    ensures write_fault { result ≡ DrawEnd.WriteFault → HasRisen (O.fault_count out.old) (O.fault_count out.new) }
+{
+    match picture_of(alloc, input) {
+        Ok(picture) => match write_all(out, picture.as_slice()) {
+            Ok(()) => DrawEnd::Done,
+            Err(Failed) => DrawEnd::WriteFault,
+        },
+        Err(end) => end,
+    }
+}
+
+// Reads a report, and answers its picture.
+fn picture_of<I: Source>(alloc: Global, input: &mut I) -> Result<Vec<u8>, DrawEnd>
+    ensures picture { IfOk result (λ picture. IsPicture picture.items) }
+    ensures done { IfErr result (λ end. end ≢ DrawEnd.Done) }
+    ensures wrote { IfErr result (λ end. end ≢ DrawEnd.WriteFault) }
+    ensures read_fault { IfErr result (λ end. end ≡ DrawEnd.ReadFault → HasRisen (I.fault_count input.old) (I.fault_count input.new)) }
+{
+    let Ok(mut lines) = Lines::new(alloc) else {
+        return Err(DrawEnd::Memory);
+    };
+    let Ok(mut picture) = Picture::new(alloc) else {
+        return Err(DrawEnd::Memory);
+    };
+    note_all(&mut lines, &mut picture, input)?;
+    match picture.drawn() {
+        Ok(text) => Ok(text),
+        Err(_) => Err(DrawEnd::Memory),
+    }
+}
+
+// Notes the lines of a report up to its end. No number is left for a line past 2^64 - 2, so that one is told as want of memory.
+fn note_all<I: Source>(
+    lines: &mut Lines,
+    picture: &mut Picture,
+    input: &mut I,
+) -> Result<(), DrawEnd>
+    ensures done { IfErr result (λ end. end ≢ DrawEnd.Done) }
+    ensures wrote { IfErr result (λ end. end ≢ DrawEnd.WriteFault) }
+    ensures read_fault { IfErr result (λ end. end ≡ DrawEnd.ReadFault → HasRisen (I.fault_count input.old) (I.fault_count input.new)) }
+{
+    for number in 1..u64::MAX {
+        if !note_next(lines, picture, input, number)? {
+            return Ok(());
+        }
+    }
+    Err(DrawEnd::Memory)
+}
+
+// Notes the next line, and answers whether there was one.
+fn note_next<I: Source>(
+    lines: &mut Lines,
+    picture: &mut Picture,
+    input: &mut I,
+    number: u64,
+) -> Result<bool, DrawEnd>
+    ensures done { IfErr result (λ end. end ≢ DrawEnd.Done) }
+    ensures wrote { IfErr result (λ end. end ≢ DrawEnd.WriteFault) }
+    ensures read_fault { IfErr result (λ end. end ≡ DrawEnd.ReadFault → HasRisen (I.fault_count input.old) (I.fault_count input.new)) }
+    ensures never_falls { I.fault_count input.old ≤ I.fault_count input.new }
+{
+    match lines.next(input) {
+        Ok(LineRead::Line(line)) => note_line(picture, number, line),
+        Ok(LineRead::Long) => Err(DrawEnd::NotReport(number)),
+        Ok(LineRead::End) => Ok(false),
+        Err(Failed) => Err(DrawEnd::ReadFault),
+    }
+}
+
+// Notes a line.
+fn note_line(picture: &mut Picture, number: u64, line: &[u8]) -> Result<bool, DrawEnd>
+    ensures done { IfErr result (λ end. end ≢ DrawEnd.Done) }
+    ensures wrote { IfErr result (λ end. end ≢ DrawEnd.WriteFault) }
+    ensures read { IfErr result (λ end. end ≢ DrawEnd.ReadFault) }
+{
+    match ReportLine::read(line) {
+        Some(report) => noted(picture, number, &report),
+        None => Err(DrawEnd::NotReport(number)),
+    }
+}
+
+// Notes what a line says.
+fn noted(picture: &mut Picture, number: u64, report: &ReportLine<'_>) -> Result<bool, DrawEnd>
+    ensures { IfErr result (λ end. end ≡ DrawEnd.Memory) }
+{
+    match picture.note(number, report) {
+        Ok(()) => Ok(true),
+        Err(_) => Err(DrawEnd::Memory),
+    }
+}

@@ -1,0 +1,171 @@
+// The rows of a picture: datagrams on the wire with what became of them, and what happened at columns.
+use super::layout::{BELOW, ROW};
+use perc_rtp::{Carried, RtpHead, kind};
+use perc_word::Octets;
+use std::alloc::{AllocError, Global};
+
+/// How many outcomes are drawn of a datagram at most.
+const MOST_OUTCOMES: usize = 20;
+
+/// On which way a datagram came to the wire.
+#[derive(Clone, Copy)]
+pub enum Way {
+    Up,
+    Made,
+    Reseal,
+    Down,
+}
+
+/// What is shown of a datagram.
+#[derive(Clone, Copy)]
+pub enum Shown {
+    /// The payload type and the sequence number of an RTP packet.
+    Rtp { pt: u8, seq: u16 },
+    /// What it carries, and its length in octets.
+    Sized { kind: &'static [u8], len: usize },
+}
+
+/// What happened: in words, with the sender of what was accepted by its column, and with numbers where there are any.
+#[derive(Clone, Copy)]
+pub struct Saying {
+    /// The class that gives the colour.
+    pub class: &'static [u8],
+    /// What leads to the name of its column.
+    pub lead: &'static [u8],
+    pub verb: &'static [u8],
+    pub sender: Option<usize>,
+    pub reason: &'static [u8],
+    pub number: Option<u64>,
+    pub epoch: Option<u64>,
+}
+
+/// What a row shows.
+#[derive(Clone, Copy)]
+pub enum What {
+    /// A datagram on the wire.
+    Wire {
+        way: Way,
+        datagram: u32,
+        shown: Shown,
+    },
+    /// What happened at a column.
+    Mark(Saying),
+    /// What became of a datagram that no earlier line brought to the wire.
+    Late {
+        datagram: u32,
+        saying: Saying,
+    },
+}
+
+/// What became of a datagram at a column, by a line of the report.
+#[derive(Clone, Copy)]
+pub struct Outcome {
+    pub line: u64,
+    pub at: usize,
+    pub saying: Saying,
+}
+
+/// A row: a line of the report, at the column of a member or of the distributor, and the later lines that tell what became of its
+/// datagram.
+#[derive(Drop)]
+pub struct Row {
+    pub line: u64,
+    pub column: usize,
+    pub what: What,
+    outcomes: Vec<Outcome>,
+    /// How many outcomes came past those that are drawn.
+    pub more: u64,
+}
+
+impl Row {
+    /// A row without outcomes.
+    pub fn new(alloc: Global, line: u64, column: usize, what: What) -> Row {
+        Row {
+            line,
+            column,
+            what,
+            outcomes: Vec::new(alloc),
+            more: 0,
+        }
+    }
+
+    /// Adds what became of the row's datagram.
+    pub fn add(&mut self, outcome: Outcome) -> Result<(), AllocError> {
+        if self.outcomes.len() == MOST_OUTCOMES {
+            self.more = self.more.saturating_add(1);
+            return Ok(());
+        }
+        Ok(self.outcomes.push(outcome)?)
+    }
+
+    /// The outcomes, in order.
+    pub fn outcomes(&self) -> &[Outcome] {
+        self.outcomes.as_slice()
+    }
+
+    /// The column at the head of the row's arrow.
+    pub fn head(&self) -> usize {
+        match self.what {
+            What::Wire {
+                way: Way::Up,
+                datagram: _,
+                shown: _,
+            } => 0,
+            _ => self.column,
+        }
+    }
+
+    /// The class of the arrow: that of the first outcome, where it is one at the head.
+    pub fn class(&self) -> &'static [u8] {
+        match self.outcomes.first() {
+            Some(outcome) if outcome.at == self.head() => outcome.saying.class,
+            _ => b"plain",
+        }
+    }
+
+    /// Whether the datagram was sent to a member, and no line tells what became of it.
+    pub fn is_lost(&self) -> bool {
+        match self.what {
+            What::Wire {
+                way: Way::Down | Way::Reseal,
+                datagram: _,
+                shown: _,
+            } => self.outcomes.is_empty(),
+            _ => false,
+        }
+    }
+
+    /// How high the row is, with the lines below it.
+    pub fn height(&self) -> u64 {
+        let rest = u64::from(self.more > 0 || self.is_lost());
+        let below = rest.saturating_add(self.outcomes.len() as u64);
+        ROW.saturating_add(BELOW.saturating_mul(below))
+    }
+}
+
+/// What is shown of a datagram of these octets, as many as there is room for.
+pub fn shown_of(octets: &Octets<'_>, room: &mut [u8]) -> Shown {
+    let n = octets.len().min(room.len());
+    let packet = &mut room[..n];
+    octets.write_front(packet);
+    shown_from(packet, octets.len())
+}
+
+// What is shown of a datagram that begins so, and is as long.
+fn shown_from(packet: &[u8], len: usize) -> Shown {
+    let kind = match kind(packet) {
+        Carried::Rtp => {
+            if let Ok(head) = RtpHead::read(packet) {
+                return Shown::Rtp {
+                    pt: head.pt,
+                    seq: head.seq,
+                };
+            }
+            b"other".as_slice()
+        }
+        Carried::Rtcp => b"RTCP",
+        Carried::Dtls => b"DTLS",
+        Carried::Other => b"other",
+    };
+    Shown::Sized { kind, len }
+}
