@@ -1,0 +1,11 @@
+pub mod Short
+pub mod Reading
+pub mod Passing
+pub mod Opened
+pub mod Between
+pub mod Relay
+pub mod Streams
+pub mod Sent
+pub mod Kept
+pub mod Rounds
+pub mod Whole

@@ -1,0 +1,8 @@
+//! The generator of conference scripts, for tests of a whole run and of its speed.
+#![tactic(auto)]
+
+mod generator;
+#[cfg(test)]
+mod tests;
+
+pub use generator::make;
