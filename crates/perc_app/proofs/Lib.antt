@@ -1,3 +1,5 @@
 mod Ends
 mod Pieces
 mod Words
+mod Sums
+mod Makes

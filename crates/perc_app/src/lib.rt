@@ -1,6 +1,9 @@
 //! The top call: what the program does with its words, its input and its outputs.
 #![tactic(auto)]
 
+mod made;
+#[cfg(test)]
+mod hostile_tests;
 #[cfg(test)]
 mod tests;
 mod top;

@@ -6,7 +6,7 @@ use std::alloc::{AllocError, Global};
 use std::process::Abort;
 use std::test::Fail;
 
-const OPENING: &str =
+pub(crate) const OPENING: &str =
     "conference 0009\nekt 01010101010101010101010101010101 020202020202020202020202\njoin Ann 11111111 1000 c1c1c1c1c1c1c1c1c1c1c1c1c1c1c1c1c1c1c1c1c1c1c1c1c1c1c1c1 c2c2c2c2c2c2c2c2c2c2c2c2c2c2c2c2c2c2c2c2c2c2c2c2c2c2c2c2 d1d1d1d1d1d1d1d1d1d1d1d1d1d1d1d1\njoin Bob 22222222 2000 c3c3c3c3c3c3c3c3c3c3c3c3c3c3c3c3c3c3c3c3c3c3c3c3c3c3c3c3 c4c4c4c4c4c4c4c4c4c4c4c4c4c4c4c4c4c4c4c4c4c4c4c4c4c4c4c4 d2d2d2d2d2d2d2d2d2d2d2d2d2d2d2d2\n";
 
 const OPENED: &str =
@@ -14,15 +14,15 @@ const OPENED: &str =
 
 // What came of a run.
 #[derive(Drop)]
-struct Outcome {
-    status: Status,
-    out: Vec<u8>,
-    err: Vec<u8>,
+pub(crate) struct Outcome {
+    pub status: Status,
+    pub out: Vec<u8>,
+    pub err: Vec<u8>,
 }
 
 // Runs `replay` on a script that comes in pieces of that many octets, where these calls of the input, the output and the
 // error sink fail.
-fn replayed(
+pub(crate) fn replayed(
     alloc: Global,
     script: &[u8],
     piece: usize,
@@ -41,7 +41,7 @@ fn replayed(
     })
 }
 
-fn joined(alloc: Global, pieces: &[&str]) -> Result<Vec<u8>, AllocError> {
+pub(crate) fn joined(alloc: Global, pieces: &[&str]) -> Result<Vec<u8>, AllocError> {
     let mut all = Vec::new(alloc);
     for piece in pieces {
         all.extend_from_slice(piece.as_bytes())?;
@@ -72,7 +72,15 @@ fn words_in_no_form(rt: HostRuntime) -> Result<(), Fail> {
     let alloc = rt.alloc();
     are_refused(&rt, alloc, &[])?;
     are_refused(&rt, alloc, &["replay", "x"])?;
+    are_refused(&rt, alloc, &["make"])?;
     are_refused(&rt, alloc, &["make", "0"])?;
+    are_refused(&rt, alloc, &["make", "1001"])?;
+    are_refused(&rt, alloc, &["make", "07"])?;
+    are_refused(&rt, alloc, &["make", "+7"])?;
+    are_refused(&rt, alloc, &["make", ""])?;
+    are_refused(&rt, alloc, &["make", "7", "7"])?;
+    are_refused(&rt, alloc, &["7", "make"])?;
+    are_refused(&rt, alloc, &["Make", "7"])?;
     are_refused(&rt, alloc, &["--help"])?;
     are_refused(&rt, alloc, &[""])?;
     are_refused(&rt, alloc, &["replay "])?;
@@ -83,7 +91,7 @@ fn words_in_no_form(rt: HostRuntime) -> Result<(), Fail> {
 const REFUSED: [(&str, &str); 40] = [
     ("conference 0009\n", "perc: line 5: order\n"),
     ("# a comment\n\nconference 0009\n", "perc: line 7: order\n"),
-    ("conference 000a\n", "perc: line 5: later\n"),
+    ("conference 000a\n", "perc: line 5: order\n"),
     ("conference clear\n", "perc: line 5: form\n"),
     ("conference\n", "perc: line 5: form\n"),
     (
@@ -129,9 +137,9 @@ const REFUSED: [(&str, &str); 40] = [
     ("deliver 4294967296 Bob\n", "perc: line 5: form\n"),
     ("deliver 1 Zed\n", "perc: line 5: name\n"),
     ("deliver 01 Bob\n", "perc: line 5: form\n"),
-    ("inject 00\n", "perc: line 5: later\n"),
-    ("alter 1 0 00\n", "perc: line 5: later\n"),
-    ("rtcp Ann 80c8000000000000\n", "perc: line 5: later\n"),
+    ("inject -\n", "perc: line 5: form\n"),
+    ("alter 1 0 00\n", "perc: line 5: datagram\n"),
+    ("rtcp Zed 80c8000000000000\n", "perc: line 5: name\n"),
     ("# caf\u{e9}\n", "perc: line 5: form\n"),
     ("#\r\n", "perc: line 5: form\n"),
     ("\0\n", "perc: line 5: form\n"),
@@ -161,7 +169,7 @@ const SCRIPTS: [(&str, u8, &str, &str); 7] = [
     ("", 0, "", ""),
     ("# nothing here\n\n#", 0, "", ""),
     ("conference 0009", 0, "", ""),
-    ("conference 000a", 2, "", "perc: line 1: later\n"),
+    ("conference 000a", 0, "", ""),
     ("send Ann 0 0 0 -\n", 2, "", "perc: line 1: order\n"),
     ("send Ann 72 0 0 -\n", 2, "", "perc: line 1: form\n"),
     (
@@ -273,4 +281,39 @@ fn each_call_fails(rt: HostRuntime) -> Result<(), Fail> {
         fails_so(&rt, alloc, [&[], &[call], &[]], 4, "perc: write fault\n")?;
     }
     fails_so(&rt, alloc, [&[3], &[], &[0]], 3, "")
+}
+
+// Runs the generated script of so many rounds, where these calls of the output fail.
+fn made(alloc: Global, rounds: &str, failing: &[u64]) -> Result<Outcome, AllocError> {
+    let mut input = MemSource::new(Vec::new(alloc), 1, vec![in alloc; 0]?);
+    let mut out = MemSink::new(alloc, 10, failing.to_vec(alloc)?);
+    let mut err = MemSink::new(alloc, 100, Vec::new(alloc));
+    let words = vec![in alloc;
+        String::from_str(alloc, "make")?,
+        String::from_str(alloc, rounds)?,
+    ]?;
+    let status = run(alloc, &words, &mut input, &mut out, &mut err);
+    Ok(Outcome {
+        status,
+        out: out.octets().to_vec(alloc)?,
+        err: err.octets().to_vec(alloc)?,
+    })
+}
+
+// The counts are worked out by hand, and the sum comes from an independent implementation.
+#[test]
+fn generated_scripts(rt: HostRuntime) -> Result<(), Fail> {
+    let alloc = rt.alloc();
+    let summary = b"made 7 lines 34 datagrams 21 accepted 14 refused 1 sum 342740\n";
+    let whole = made(alloc, "7", &[])?;
+    assert_eq!(rt; whole.status, Status(0));
+    assert_eq!(rt; whole.out.as_slice(), summary.as_slice());
+    assert_eq!(rt; whole.err.as_slice(), b"".as_slice());
+    for call in 0..7 {
+        let broken = made(alloc, "7", &[call])?;
+        assert_eq!(rt; broken.status, Status(4));
+        assert!(rt; summary.starts_with(broken.out.as_slice()));
+        assert_eq!(rt; broken.err.as_slice(), b"perc: write fault\n".as_slice());
+    }
+    Ok(())
 }

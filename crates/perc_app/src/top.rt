@@ -5,8 +5,10 @@ ghost use Rattle.perc_replay.specs.Replay.{Ends};
 ghost use Rattle.perc_replay.specs.declared.run.ReplayEnd.{ReplayEnd as End};
 ghost use Rattle.perc_app.specs.Status.{end_text, foreign_text, status_of, usage_status, usage_text};
 ghost use Rattle.perc_base.specs.Written.{Tells};
+ghost use Rattle.perc_app.specs.Made.{IsMake, IsMakeEnd, MakeEnds, Summed};
 ghost use Rattle.perc_app.specs.Run.{Ended, HasNoFault, IsReplay, IsTrueReport};
 
+use super::made::{rounds_in, run_made};
 use super::write::write_pieces;
 use perc_base::{Failed, Sink, Source};
 use perc_headline::laws;
@@ -18,8 +20,8 @@ use std::alloc::Global;
 #[derive(Clone, Copy, Debug, PartialEq, Eq)]
 pub struct Status(pub u8);
 
-/// Does what the words say, with an input, an output and a sink for error texts. The one form of words is `replay`,
-/// which reads a conference script from the input and writes its report to the output.
+/// Does what the words say, with an input, an output and a sink for error texts. The words `replay` read a conference script from the
+/// input and write its report to the output; `make N`, N from 1 to 1000, run the generated script of N rounds and write a summary.
 pub fn run<I: Source, O: Sink, E: Sink>(
     alloc: Global,
     words: &[String],
@@ -28,7 +30,7 @@ pub fn run<I: Source, O: Sink, E: Sink>(
     err: &mut E,
 ) -> Status
     // Words in no form: the input and the output aren't called, and nothing is written but the usage.
-    ensures usage { (IsReplay (map string_bytes words.now) → ⊥) → (result.0 ≡ usage_status)
+    ensures usage { (IsReplay (map string_bytes words.now) → ⊥) → ((rounds : ℕ) → IsMake (map string_bytes words.now) rounds → ⊥) → (result.0 ≡ usage_status)
         × (I.left input.new ≡ I.left input.old) × (O.written out.new ≡ O.written out.old)
         × (I.fault_count input.new ≡ I.fault_count input.old) × (O.fault_count out.new ≡ O.fault_count out.old)
         × Tells (E.written err.old) (E.written err.new) usage_text (E.fault_count err.old) (E.fault_count err.new) }
@@ -44,6 +46,16 @@ pub fn run<I: Source, O: Sink, E: Sink>(
     ensures headline { IsReplay (map string_bytes words.now) → IfSome (I.left input.old) (λ octets. IfSome (O.written out.old) (λ before.
         (after : List ℕ) × (O.written out.new ≡ Some after) × IsTrueReport octets before after)) }
 
+    // `make` calls the input never, and ends as its script and the output say. No line of the script is refused.
+    ensures make { (rounds : ℕ) → IsMake (map string_bytes words.now) rounds → (end : End) × (result.0 ≡ status_of end) × IsMakeEnd end
+        × (I.left input.new ≡ I.left input.old) × (I.fault_count input.new ≡ I.fault_count input.old)
+        × IfSome (O.written out.old) (λ before. (after : List ℕ) × (O.written out.new ≡ Some after) × MakeEnds rounds before end after)
+        × Tells (E.written err.old) (E.written err.new) (end_text end) (E.fault_count err.old) (E.fault_count err.new) }
+
+    // Where no call on the output fails, the summary is written, or a datagram is foreign, or memory runs out.
+    ensures summed { (rounds : ℕ) → IsMake (map string_bytes words.now) rounds → HasNoFault (O.fault_count out.old) (O.fault_count out.new)
+        → IfSome (O.written out.old) (λ before. (after : List ℕ) × (O.written out.new ≡ Some after) × Summed rounds before result.0 after) }
+
     // A fault comes only where a call failed.
     ensures read_fault { result.0 ≡ 3 → HasRisen (I.fault_count input.old) (I.fault_count input.new) }
     ensures write_fault { result.0 ≡ 4 → HasRisen (O.fault_count out.old) (O.fault_count out.new) }
@@ -55,6 +67,10 @@ pub fn run<I: Source, O: Sink, E: Sink>(
         → IfSome (I.left input.old) (λ octets. IfSome (O.written out.old) (λ before. (after : List ℕ) × (O.written out.new ≡ Some after)
         × (Ended octets before result.0 (I.left input.new) after ⊎ (result.0 ≡ 6)))) }
 {
+    if let Some(rounds) = rounds_in(words) {
+        let end = run_made(alloc, rounds, out);
+        return ended(err, &end);
+    }
     if !is_replay(words) {
         let _ = write_pieces(err, &[USAGE]);
         return Status(1);
@@ -66,8 +82,7 @@ pub fn run<I: Source, O: Sink, E: Sink>(
     laws::each_nonce_once();
     laws::turn_by_turn();
     let end = replay(alloc, input, out);
-    tell(err, &end);
-    Status(status_number(&end))
+    ended(err, &end)
 }
 
 const USAGE: &[u8] = b"perc: usage: replay, make, endpoint, distributor, keydist\n";
@@ -80,6 +95,15 @@ fn is_replay(words: &[String]) -> bool
         [word] => word.as_str() == "replay",
         _ => false,
     }
+}
+
+// Tells how a script ended, and answers the status.
+fn ended<E: Sink>(err: &mut E, end: &ReplayEnd) -> Status
+    ensures status { result.0 ≡ status_of end.now }
+    ensures told { Tells (E.written err.old) (E.written err.new) (end_text end.now) (E.fault_count err.old) (E.fault_count err.new) }
+{
+    tell(err, end);
+    Status(status_number(end))
 }
 
 // The number of an end.

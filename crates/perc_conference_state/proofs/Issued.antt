@@ -11,6 +11,9 @@ use Rattle.std.proofs.lemmas.Option.{none-some}
 use Rattle.perc_base.specs.Profile.{key_length}
 use Rattle.perc_base.specs.declared.profile.Profile.{Profile}
 use Rattle.perc_ekt.specs.declared.record.EktKeyRecord.{EktKeyRecord}
+use Rattle.perc_keeper.specs.Lists.{spi_of, with_issued}
+use Rattle.perc_key_service.specs.Service.{MayIssue, Service, issued_as}
+use Rattle.perc_keydist.specs.Distributing.{next_spi}
 use Rattle.perc_receiver.specs.Table.{Secret, secret_in, secret_of}
 use Rattle.perc_report_line.specs.Report.{Ekt, report_text}
 use Rattle.perc_run.specs.Keys.{ekt_turn}
@@ -18,9 +21,11 @@ use Rattle.perc_run.specs.Sound.{IsOrderly, KeysFit}
 use Rattle.perc_run.specs.State.{State}
 use Rattle.perc_sent.specs.Sent.{MirrorsRecords}
 use Rattle.perc_conference_state.specs.declared.conference.Conference as code
+use Rattle.perc_conference_state.specs.Keys.{MirrorsService}
 use Rattle.perc_conference_state.specs.Mirror.{Does, Mirrors, is_issued, padded}
 use Rattle.perc_conference_state.proofs.Changing.{distributor_moved}
-use Rattle.perc_conference_state.proofs.Issuing.{IsMade, ekt_goes, issued_more, records_count, records_more, right_record, secret_at, secret_made, secret_missing}
+use Rattle.perc_conference_state.proofs.Issuing.{IsMade, ekt_goes, issued_more, next_is, no_spi, records_count, records_more, right_record, secret_at, secret_made, secret_missing}
+use Rattle.perc_conference_state.proofs.Served.{keys_from}
 use Rattle.perc_sent.proofs.Kept.{sent_moved}
 use Rattle.perc_conference_state.proofs.Turning.{does_goes, untold}
 
@@ -48,34 +53,81 @@ records_under c s profile mirrors is =
 pub spi_count : (c : code.Conference) (s : State) (profile : Profile) → Mirrors c s → c.profile ≡ Some profile → c.records.len ≡ length s.secrets
 spi_count c s profile mirrors is = c.records.ok.0 ∙ records_count profile c.records.items s.secrets (records_under c s profile mirrors is)
 
+-- ---- the key distributor issues
+
+-- It may issue a key that is new, where an SPI is left.
+pub may_issue : (c : code.Conference) (s : State) (profile : Profile) (k : Service) (key : List ℕ) → Mirrors c s → c.profile ≡ Some profile → MirrorsService c s profile k
+    → length key ≡ key_length profile → list_any (λ x. bytes_eq x.key key) s.secrets ≡ false → length s.secrets < 65535 → MayIssue k key
+may_issue c s profile k key mirrors is service size unused room =
+    let records = records_under c s profile mirrors is in
+    let next : next_spi k.lists.issued ≡ length s.secrets + 1 = ap next_spi service.issued ∙ next_is profile c.records.items s.secrets records in
+    record {
+      size = size ∙ ap key_length (sym service.profile_is);
+      unused = ap (λ (rs : List EktKeyRecord). spi_of rs key) service.issued ∙ no_spi profile c.records.items s.secrets key records unused;
+      left = omega arith;
+    }
+
+-- what it answers, and what it is then
+pub record Serves (k after : Service) (r : EktKeyRecord) (key salt : List ℕ) : Type 0 where
+  pub answer : r ≡ issued_as k key salt
+  pub behind : after ≡ record k { lists = with_issued r k.lists }
+
+-- The same, where the key and the salt are told to be others.
+pub serves : (k after : Service) (r : EktKeyRecord) (key salt key_read salt_read : List ℕ) → r ≡ issued_as k key_read salt_read
+    → after ≡ record k { lists = with_issued (issued_as k key_read salt_read) k.lists } → key_read ≡ key → salt_read ≡ salt → Serves k after r key salt
+serves k after r key salt key_read salt_read answer behind same_key same_salt = record {
+  answer = answer ∙ (λ i. issued_as k (same_key i) (same_salt i));
+  behind = behind ∙ ap (λ (x : EktKeyRecord). record k { lists = with_issued x k.lists }) (sym answer);
+}
+
+made_by : (k after : Service) (profile : Profile) (r : EktKeyRecord) (key salt : List ℕ) → k.profile ≡ profile → length key ≡ key_length profile → Serves k after r key salt
+    → IsMade r key salt r.spi
+made_by k after profile r key salt same size h =
+    let is = h.answer in
+    record {
+      key_is = ap (λ (x : EktKeyRecord). x.key) is;
+      len = ap (λ (x : EktKeyRecord). x.len) is ∙ ap key_length same ∙ sym size;
+      salt_is = ap (λ (x : EktKeyRecord). x.salt) is;
+      spi_is = refl;
+      life = ap (λ (x : EktKeyRecord). x.life) is;
+    }
+
 -- what the line leaves
-pub record Issues (c d : code.Conference) (r : EktKeyRecord) (octets : List ℕ) (spi : ℕ) : Type 0 where
+pub record Issues (c d : code.Conference) (after : Service) (r : EktKeyRecord) (octets : List ℕ) : Type 0 where
   pub profile : d.profile ≡ c.profile
   pub records : d.records.items ≡ c.records.items ++ r ∷ []
-  pub issued : tree.Updates (slice_cmp nat_cmp) c.issued d.issued octets (Some spi)
+  pub issued : tree.Updates (slice_cmp nat_cmp) c.issued d.issued octets (Some r.spi)
   pub members : d.members ≡ c.members
   pub distributor : d.distributor ≡ c.distributor
+  pub keys : d.keys ≡ Some after
   pub datagrams : d.datagrams ≡ c.datagrams
 
-mirrors_issued : (c d : code.Conference) (s : State) (profile : Profile) (r : EktKeyRecord) (octets key salt : List ℕ) (spi : ℕ) → Mirrors c s
-    → c.profile ≡ Some profile → length key ≡ key_length profile → length salt ≡ 12
-    → spi < 2 ^ 16 → spi ≡ length s.secrets + 1 → IsMade r key salt spi → octets ≡ padded key → Issues c d r octets spi
-    → Mirrors d (record s { secrets = s.secrets ++ record { spi = spi; key = key; salt = salt } ∷ [] })
-mirrors_issued c d s profile r octets key salt spi mirrors is size twelve fits spi_is made octets_are rest =
-    let new : Secret = record { spi = spi; key = key; salt = salt } in
+mirrors_issued : (c d : code.Conference) (s : State) (profile : Profile) (k after : Service) (r : EktKeyRecord) (octets key salt : List ℕ) → Mirrors c s
+    → c.profile ≡ Some profile → MirrorsService c s profile k → length key ≡ key_length profile → length salt ≡ 12
+    → r.spi < 2 ^ 16 → r.spi ≡ length s.secrets + 1 → Serves k after r key salt → octets ≡ padded key → Issues c d after r octets
+    → Mirrors d (record s { secrets = s.secrets ++ record { spi = r.spi; key = key; salt = salt } ∷ [] })
+mirrors_issued c d s profile k after r octets key salt mirrors is service size twelve fits spi_is answers octets_are rest =
+    let new : Secret = record { spi = r.spi; key = key; salt = salt } in
     let next : State = record s { secrets = s.secrets ++ new ∷ [] } in
     let at : s.profile ≡ Some profile = sym mirrors.profile ∙ is in
     let old = records_under c s profile mirrors is in
-    let updates : tree.Updates (slice_cmp nat_cmp) c.issued d.issued (padded key) (Some spi) =
-    subst (λ (k : List ℕ). tree.Updates (slice_cmp nat_cmp) c.issued d.issued k (Some spi)) octets_are rest.issued in
+    let made = made_by k after profile r key salt service.profile_is size answers in
+    let updates : tree.Updates (slice_cmp nat_cmp) c.issued d.issued (padded key) (Some r.spi) =
+    subst (λ (x : List ℕ). tree.Updates (slice_cmp nat_cmp) c.issued d.issued x (Some r.spi)) octets_are rest.issued in
     let found : KeyFound d.issued (s.secrets ++ new ∷ []) profile =
-    issued_more c.issued d.issued (key_length profile) spi s.secrets new size updates (λ other other_size. issued_is c s profile other mirrors is other_size) in
+    issued_more c.issued d.issued (key_length profile) r.spi s.secrets new size updates (λ other other_size. issued_is c s profile other mirrors is other_size) in
     let more : MirrorsRecords profile (c.records.items ++ r ∷ []) (s.secrets ++ secret_in r ∷ []) =
-    records_more profile c.records.items s.secrets r old (right_record profile r key salt spi made size twelve fits) (made.len ∙ size)
-    (made.spi_is ∙ spi_is ∙ ap (λ n. n + 1) (sym (records_count profile c.records.items s.secrets old))) in
+    records_more profile c.records.items s.secrets r old (right_record profile r key salt r.spi made size twelve fits) (made.len ∙ size)
+    (spi_is ∙ ap (λ n. n + 1) (sym (records_count profile c.records.items s.secrets old))) in
     let all : MirrorsRecords profile d.records.items (s.secrets ++ new ∷ []) =
-    subst (λ (x : Secret). MirrorsRecords profile d.records.items (s.secrets ++ x ∷ [])) (secret_made r key salt spi made)
+    subst (λ (x : Secret). MirrorsRecords profile d.records.items (s.secrets ++ x ∷ [])) (secret_made r key salt r.spi made)
     (subst (λ (xs : List EktKeyRecord). MirrorsRecords profile xs (s.secrets ++ secret_in r ∷ [])) (sym rest.records) more) in
+    let serving : MirrorsService d next profile (record k { lists = with_issued r k.lists }) = record {
+      profile_is = service.profile_is;
+      issued = ap (λ (rs : List EktKeyRecord). rs ++ r ∷ []) service.issued ∙ sym rest.records;
+      given = rw rest.members service.given;
+      members = service.members;
+    } in
     record {
       profile = rest.profile ∙ mirrors.profile;
       issued = record {
@@ -84,22 +136,26 @@ mirrors_issued c d s profile r octets key salt spi mirrors is size twelve fits s
       };
       members = rw rest.members mirrors.members;
       distributor = rw rest.distributor (distributor_moved c.distributor s next refl refl refl mirrors.distributor);
+      keys = keys_from d next profile (record k { lists = with_issued r k.lists }) at (rest.keys ∙ ap Some answers.behind) serving;
       datagrams = rw rest.datagrams mirrors.datagrams;
       records = subst (λ (o : Option Profile). IfSome o (λ p. MirrorsRecords p d.records.items (s.secrets ++ new ∷ []))) (sym at) all;
       none = λ no. absurd (let bad : None ≡ Some profile = sym no ∙ at in cc);
       sent = rw rest.members (sent_moved c.members.items s next refl refl mirrors.sent);
     }
 
-pub issues : (c d : code.Conference) (s : State) (profile : Profile) (r : EktKeyRecord) (octets key salt before after : List ℕ) (spi : ℕ) → Mirrors c s
-    → c.profile ≡ Some profile → length key ≡ key_length profile → length salt ≡ 12
-    → list_any (λ x. bytes_eq x.key key) s.secrets ≡ false → length s.secrets < 65535 → spi ≡ length s.secrets + 1 → IsMade r key salt spi → octets ≡ padded key
-    → Issues c d r octets spi
-    → after ≡ before ++ report_text (Ekt spi) → Does (ekt_turn s key salt) (Ok untold) before after d
-issues c d s profile r octets key salt before after spi mirrors is size twelve unused room spi_is made octets_are rest text =
+pub issues : (c d : code.Conference) (s : State) (profile : Profile) (k served : Service) (r : EktKeyRecord) (octets key salt before after : List ℕ) → Mirrors c s
+    → c.profile ≡ Some profile → MirrorsService c s profile k → length key ≡ key_length profile → length salt ≡ 12
+    → list_any (λ x. bytes_eq x.key key) s.secrets ≡ false → length s.secrets < 65535 → Serves k served r key salt → octets ≡ padded key
+    → Issues c d served r octets
+    → after ≡ before ++ report_text (Ekt r.spi) → Does (ekt_turn s key salt) (Ok untold) before after d
+issues c d s profile k served r octets key salt before after mirrors is service size twelve unused room answers octets_are rest text =
     let next = λ (n : ℕ). record s { secrets = s.secrets ++ record { spi = n; key = key; salt = salt } ∷ [] } in
+    let spi_is : r.spi ≡ length s.secrets + 1 =
+    ap (λ (x : EktKeyRecord). x.spi) answers.answer ∙ ap next_spi service.issued ∙ next_is profile c.records.items s.secrets (records_under c s profile mirrors is) in
     does_goes (ekt_turn s key salt) (Ekt (length s.secrets + 1)) (next (length s.secrets + 1)) untold before after d (ekt_goes s key salt unused room)
     (subst (λ (n : ℕ). after ≡ before ++ report_text (Ekt n)) spi_is text) refl
-    (subst (λ (n : ℕ). Mirrors d (next n)) spi_is (mirrors_issued c d s profile r octets key salt spi mirrors is size twelve (omega arith) spi_is made octets_are rest))
+    (subst (λ (n : ℕ). Mirrors d (next n)) spi_is
+    (mirrors_issued c d s profile k served r octets key salt mirrors is service size twelve (omega arith) spi_is answers octets_are rest))
 
 -- ---- the record of an SPI
 

@@ -5,9 +5,11 @@ use Rattle.std.specs.BTreeMap.{BTreeMap}
 use Rattle.std.specs.Cmp.{Equal-is, both_ways}
 use Rattle.std.specs.Cmp.Lexicographic.{slice_cmp}
 use Rattle.std.specs.List.{list_any}
-use Rattle.std.specs.Option.{is_some}
+use Rattle.std.specs.Option.{is_some, option_map_or}
 use Rattle.std.specs.Ordering.{is_eq}
+use Rattle.std.specs.Prelude.{nat_lt}
 use Rattle.std.specs.Str.{bytes_eq}
+use Rattle.std.proofs.lemmas.Bool.{or_parts}
 use Rattle.std.proofs.lemmas.Bool.Decides.{nat_tests}
 use Rattle.std.proofs.lemmas.Cmp.{nat_list_cmp_total, tied_itself}
 use Rattle.std.proofs.lemmas.List.{length-append, length-map, length-replicate, map-append}
@@ -23,6 +25,8 @@ use Rattle.perc_base.specs.declared.profile.Profile.TheVariants.{Aes128, Aes256}
 use Rattle.perc_ekt.specs.Key.{stored}
 use Rattle.perc_ekt.specs.Record.{IsRecord}
 use Rattle.perc_ekt.specs.declared.record.EktKeyRecord.{EktKeyRecord}
+use Rattle.perc_keeper.specs.Lists.{higher, key_of, newest, spi_of}
+use Rattle.perc_keydist.specs.Distributing.{next_spi}
 use Rattle.perc_receiver.specs.Table.{Secret, secret_in, secret_of}
 use Rattle.perc_report_line.specs.Report.{Ekt}
 use Rattle.perc_run.specs.Keys.{ekt_turn}
@@ -89,7 +93,7 @@ pub record IsMade (r : EktKeyRecord) (key salt : List ℕ) (spi : ℕ) : Type 0 
   pub len : r.len ≡ length key
   pub salt_is : r.salt ≡ salt
   pub spi_is : r.spi ≡ spi
-  pub life : r.life ≡ 0
+  pub life : r.life ≡ 86400
 
 pub secret_made : (r : EktKeyRecord) (key salt : List ℕ) (spi : ℕ) → IsMade r key salt spi → secret_in r ≡ record { spi = spi; key = key; salt = salt }
 secret_made r key salt spi made =
@@ -175,3 +179,58 @@ pub secret_missing : (profile : Profile) (records : List EktKeyRecord) (secrets 
     → (spi < 1) ⊎ (1 + length records ≤ spi) → secret_of secrets spi ≡ None
 secret_missing profile records secrets spi h out =
     subst (λ (xs : List Secret). secret_of xs spi ≡ None) h.secrets_are (find_missing records 1 spi (rise profile records secrets h) out)
+
+-- ---- the newest record
+
+-- the newest of records is their last
+pub record IsNewest (first : ℕ) (records : List EktKeyRecord) : Type 0 where
+  pub last : EktKeyRecord
+  pub newest_is : newest records ≡ Some last
+  pub at : slice_get records (length records - 1) ≡ Some last
+  pub spi : last.spi + 1 ≡ first + length records
+
+newest_of : (r : EktKeyRecord) (records : List EktKeyRecord) (first : ℕ) → RiseFrom first (r ∷ records) → IsNewest first (r ∷ records)
+newest_of r [] first rise =
+    let own = rise 0 r refl in
+    record { last = r; newest_is = refl; at = refl; spi = omega arith }
+newest_of r (x ∷ records) first rise =
+    let later = newest_of x records (first + 1) (rise_tail first r (x ∷ records) rise) in
+    let own = rise 0 r refl in
+    let spi = later.spi in
+    let test : nat_lt later.last.spi r.spi ≡ false = grind (arith, nat_tests) in
+    let place : length (r ∷ x ∷ records) - 1 ≡ suc (length (x ∷ records) - 1) = omega arith in
+    record {
+      last = later.last;
+      newest_is = ap (higher r) later.newest_is ∙ rw test refl;
+      at = ap (slice_get (r ∷ x ∷ records)) place ∙ later.at;
+      spi = omega arith;
+    }
+
+-- what stands last is the newest
+pub newest_last : (profile : Profile) (records : List EktKeyRecord) (secrets : List Secret) (r : EktKeyRecord) → MirrorsRecords profile records secrets
+    → slice_get records (length records - 1) ≡ Some r → newest records ≡ Some r
+newest_last profile [] secrets r h at = absurd cc
+newest_last profile (x ∷ records) secrets r h at =
+    let it = newest_of x records 1 (rise profile (x ∷ records) secrets h) in
+    it.newest_is ∙ sym it.at ∙ at
+
+-- SPIs go on behind the last.
+pub next_is : (profile : Profile) (records : List EktKeyRecord) (secrets : List Secret) → MirrorsRecords profile records secrets → next_spi records ≡ length secrets + 1
+next_is profile [] secrets h = ap (λ n. n + 1) (records_count profile [] secrets h)
+next_is profile (x ∷ records) secrets h =
+    let it = newest_of x records 1 (rise profile (x ∷ records) secrets h) in
+    let count = records_count profile (x ∷ records) secrets h in
+    let spi = it.spi in
+    ap (λ (o : Option EktKeyRecord). option_map_or (λ r. r.spi + 1) o 1) it.newest_is ∙ omega arith
+
+none_under : (records : List EktKeyRecord) (key : List ℕ) → list_any (λ (x : Secret). bytes_eq x.key key) (map secret_in records) ≡ false → spi_of records key ≡ None
+none_under [] key none = refl
+none_under (r ∷ records) key none =
+    let parts = or_parts (bytes_eq (key_of r) key) (list_any (λ (x : Secret). bytes_eq x.key key) (map secret_in records)) none in
+    rw parts.0 (none_under records key parts.1)
+
+-- A key that was never issued has no SPI.
+pub no_spi : (profile : Profile) (records : List EktKeyRecord) (secrets : List Secret) (key : List ℕ) → MirrorsRecords profile records secrets
+    → list_any (λ x. bytes_eq x.key key) secrets ≡ false → spi_of records key ≡ None
+no_spi profile records secrets key h unused =
+    none_under records key (ap (list_any (λ (x : Secret). bytes_eq x.key key)) h.secrets_are ∙ unused)

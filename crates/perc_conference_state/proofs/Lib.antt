@@ -1,10 +1,13 @@
 pub mod Changing
 pub mod Entering
+pub mod Entries
+pub mod Headed
 pub mod Issued
 pub mod Issuing
 pub mod Leaving
 pub mod Lists
 pub mod Places
 pub mod Sends
+pub mod Served
 pub mod Taking
 pub mod Turning

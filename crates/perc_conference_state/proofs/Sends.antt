@@ -1,5 +1,6 @@
 -- A member sends its next packet.
 use Rattle.std.proofs.Common.{◌≡◌, ℕ, ◌+◌, ◌<◌, ◌≤◌, true, false, List, [], ◌∷◌, ◌++◌, length, Some, None, Ok, slice_get, slice_set, refl, sym, ap, ◌∙◌, subst, arith}
+use Rattle.std.specs.List.{flat_map}
 use Rattle.std.specs.Prelude.{◌==◌, All, nat_le}
 use Rattle.std.proofs.lemmas.Bool.Decides.{nat_tests}
 use Rattle.std.proofs.lemmas.List.Elements.{All-contains}
@@ -20,10 +21,12 @@ use Rattle.perc_sent.proofs.Finding.{contains_at}
 use Rattle.perc_sent.proofs.Sending.{Sends, sent_on}
 use Rattle.perc_conference_state.specs.declared.conference.Conference as code
 use Rattle.perc_conference_state.specs.declared.conference.Told.{Told}
+use Rattle.perc_conference_state.specs.Keys.{pairs_of}
 use Rattle.perc_conference_state.specs.Mirror.{Does, Mirrors}
 use Rattle.perc_conference_state.proofs.Changing.{IsPlaced, distributor_moved, issued_moved}
 use Rattle.perc_conference_state.proofs.Lists.{each_push, each_set}
 use Rattle.perc_conference_state.proofs.Places.{at_nobody, at_somebody, changed_at, name_of_found}
+use Rattle.perc_conference_state.proofs.Served.{keys_moved, pairs_set, same_pairs}
 use Rattle.perc_conference_state.proofs.Turning.{does_goes}
 
 -- ---- an orderly member may send
@@ -88,6 +91,7 @@ pub record LeavesSent (c d : code.Conference) (place : ℕ) (b : code_member.Mem
   pub records : d.records ≡ c.records
   pub issued : d.issued ≡ c.issued
   pub distributor : d.distributor ≡ c.distributor
+  pub keys : d.keys ≡ c.keys
   pub members : d.members.items ≡ slice_set c.members.items place b
   pub datagrams : d.datagrams.items ≡ c.datagrams.items ++ g ∷ []
 
@@ -115,6 +119,10 @@ mirrors_sent c d s name place a b g content orderly mirrors p sends leaves =
           rw (leaves.members, changed_at with_send s.members place m orderly.sound.others p.at)
           (each_set MirrorsMember c.members.items s.members place b (with_send m) mirrors.members sends.member);
       distributor = rw leaves.distributor (distributor_moved c.distributor s next refl refl refl mirrors.distributor);
+      keys =
+          keys_moved c d s next leaves.keys (rw leaves.records refl)
+          (ap (flat_map pairs_of) leaves.members
+          ∙ pairs_set c.members.items place a b p.code_at (same_pairs a b m (with_send m) p.mirrors sends.member refl refl)) refl refl mirrors.keys;
       datagrams =
           rw leaves.datagrams (each_push MirrorsDatagram c.datagrams.items s.datagrams g (sent_by m content) mirrors.datagrams sends.datagram);
       records = rw leaves.records mirrors.records;

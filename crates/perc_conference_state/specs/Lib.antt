@@ -1,3 +1,4 @@
+pub mod Keys
 pub mod Mirror
 pub mod Lookups
 pub mod Steps

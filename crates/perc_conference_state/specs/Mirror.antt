@@ -11,6 +11,7 @@ use Rattle.perc_conference_state.specs.declared.conference.Conference as code
 use Rattle.perc_conference_state.specs.declared.conference.Stop.TheVariants as stop
 use Rattle.perc_conference_state.specs.declared.conference.Stop.{Stop}
 use Rattle.perc_conference_state.specs.declared.conference.Told.{Told}
+use Rattle.perc_conference_state.specs.Keys.{MirrorsKeys}
 use Rattle.perc_forwarder.specs.Mirror.{MirrorsDistributor}
 use Rattle.perc_member.specs.Each.{MirrorsMember, MirrorEach, MirrorsDatagram}
 use Rattle.perc_report_line.specs.Report.{Report, WireUp, WireMade, WireReseal, WireDown, RefuseMedia, Accept, Refuse, report_texts}
@@ -36,6 +37,7 @@ pub record Mirrors (c : code.Conference) (s : State) : Type 0 where
   pub issued : MirrorsIssued c s
   pub members : MirrorEach MirrorsMember c.members.items s.members
   pub distributor : MirrorsDistributor c.distributor s
+  pub keys : MirrorsKeys c s s.profile c.keys
   pub datagrams : MirrorEach MirrorsDatagram c.datagrams.items s.datagrams
   pub records : IfSome s.profile (λ profile. MirrorsRecords profile c.records.items s.secrets)
   pub none : s.profile ≡ None → c.records.items ≡ []

@@ -2,6 +2,7 @@
 use Rattle.std.specs.Prelude.{if◌then◌else◌, ℕ, List, Option, Some, None}
 use Rattle.perc_base.specs.declared.profile.Profile.{Profile}
 use Rattle.perc_conference_state.specs.declared.send.Sending.{Sending}
+use Rattle.perc_key_service.specs.declared.service.Joined.{Joined}
 use Rattle.perc_member.specs.declared.member.Newcomer.{Newcomer}
 use Rattle.perc_receiver.specs.Table.{Secret}
 use Rattle.perc_rtp.specs.Media.{Content}
@@ -31,6 +32,10 @@ join_fault s n =
 -- the member that it becomes
 abbrev pub newcomer_as : State → Profile → Newcomer → Secret → Member
 newcomer_as s profile n secret = new_member s profile n.name n.ssrc n.seq n.client n.server secret n.key
+
+-- the newcomer with the pairs that its welcome brought
+abbrev pub welcomed : Newcomer → Joined → Newcomer
+welcomed n told = record n { client = told.client; server = told.server }
 
 -- the content that the words of a send say
 abbrev pub content_said : Sending → List ℕ → Options → Content

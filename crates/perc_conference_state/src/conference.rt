@@ -1,15 +1,16 @@
 // A conference: who is in it, what was sent, and where a line's words are looked up.
-ghost use Rattle.std.specs.Prelude.{◌≡◌, ◌+◌, ◌<◌, ◌^◌, IfOk, Some, length};
+ghost use Rattle.std.specs.Prelude.{◌≡◌, ◌+◌, ◌<◌, ◌^◌, ℕ, List, [], IfOk, None, Some, length};
 ghost use Rattle.std.specs.List.{position};
 ghost use Rattle.perc_run.specs.Sound.{IsOrderly};
-ghost use Rattle.perc_run.specs.State.{State, nobody};
-ghost use Rattle.perc_conference_state.specs.Mirror.{Mirrors, all_told};
+ghost use Rattle.perc_run.specs.State.{Goes, State, nobody};
+ghost use Rattle.perc_conference_state.specs.Mirror.{Does, IsRunning, Mirrors, all_told};
 ghost use Rattle.perc_conference_state.specs.Lookups.{IsDatagramPlace, IsPlaceOf, is_here};
 ghost use Rattle.perc_sent.specs.Sent.{MirrorsTable};
 
 use perc_base::{Memory, Profile};
 use perc_ekt::EktKeyRecord;
 use perc_forwarder::Distributor;
+use perc_key_service::KeyService;
 use perc_member::{Datagram, Member};
 use perc_script_line::Reason;
 use perc_sent::Table;
@@ -124,6 +125,8 @@ pub struct Conference {
     /// All that ever joined, in the order of joining.
     pub members: Vec<Member>,
     pub distributor: Distributor,
+    /// The key distributor, behind the head.
+    pub keys: Option<KeyService>,
     /// The n-th is datagram n.
     pub datagrams: Vec<Datagram>,
 }
@@ -139,8 +142,21 @@ impl Conference {
             issued: BTreeMap::new(alloc),
             members: Vec::new(alloc),
             distributor: Distributor::new(alloc)?,
+            keys: None,
             datagrams: Vec::new(alloc),
         })
+    }
+
+    /// Takes the head: from then on there is a key distributor, to which both profiles were offered.
+    pub fn open(&mut self, alloc: Global, profile: Profile) -> Result<Told, Stop>
+        requires running { IsRunning self.old }
+        requires head { self.old.profile ≡ None }
+        ensures { (s : State) (text : List ℕ) → IsOrderly s → Mirrors self.old s
+            → Does (Goes [] (record s { profile = Some profile })) result text text self.new }
+    {
+        self.keys = Some(KeyService::new(alloc, profile)?);
+        self.profile = Some(profile);
+        Ok(Told::NONE)
     }
 
     /// The place of the member of this name that is present.

@@ -8,7 +8,6 @@ ghost use Rattle.perc_conference_state.specs.Mirror.{Does, IsRunning, Mirrors};
 ghost use Rattle.perc_conference_state.specs.Steps.{HasProfile};
 
 use crate::conference::{Conference, Stop, Told};
-use perc_ekt::EktKeyRecord;
 use perc_member::{Key, salt_of};
 use perc_report_line::ReportLine;
 use perc_script_line::Reason;
@@ -19,7 +18,7 @@ use std::alloc::Global;
 const MOST_SPIS: usize = 65535;
 
 impl Conference {
-    /// Issues the next SPI.
+    /// Lets the key distributor issue the next SPI. Whom its record reaches is said by other lines.
     pub fn ekt(
         &mut self,
         alloc: Global,
@@ -34,24 +33,18 @@ impl Conference {
             → Does (ekt_turn s key.now salt.now) result text.old.items text.new.items self.new }
     {
         let key = Key::of(key);
-        let (octets, len) = key.padded();
+        let (octets, _) = key.padded();
         if self.issued.contains_key(octets) {
             return Err(Stop::Refused(Reason::Key));
         }
         if self.records.len() >= MOST_SPIS {
             return Err(Stop::Refused(Reason::Limit));
         }
-        let spi = self.records.len() as u16 + 1;
-        let record = EktKeyRecord {
-            key: *octets,
-            len,
-            salt: salt_of(salt),
-            spi,
-            life: 0,
-        };
-        self.issued.insert(*octets, spi)?;
-        self.records.push(record)?;
-        ReportLine::Ekt { spi }.write(alloc, text)?;
+        let keys = self.keys.as_mut().unwrap();
+        let issued = keys.issue(alloc, key.octets(), &salt_of(salt))?;
+        self.issued.insert(*octets, issued.spi)?;
+        self.records.push(issued)?;
+        ReportLine::Ekt { spi: issued.spi }.write(alloc, text)?;
         Ok(Told::NONE)
     }
 }

@@ -1,5 +1,5 @@
 // The line `join`.
-ghost use Rattle.std.specs.Prelude.{◌≡◌, ◌||◌, Some, None, count_by};
+ghost use Rattle.std.specs.Prelude.{◌≡◌, ◌-◌, ◌||◌, Some, None, count_by, length, slice_get};
 ghost use Rattle.std.specs.List.{list_any};
 ghost use Rattle.perc_incoming.specs.Kept.{IsRecordFor};
 ghost use Rattle.perc_receiver.specs.Table.{secret_in};
@@ -10,12 +10,13 @@ ghost use Rattle.perc_run.specs.Joining.{are_used, is_crowded, is_known, joined,
 ghost use Rattle.perc_conference_state.specs.Mirror.{Does, IsRunning, Mirrors};
 ghost use Rattle.perc_member.specs.Making.{IsNewcomer};
 ghost use Rattle.perc_conference_state.specs.Lookups.{brought, is_known_as};
-ghost use Rattle.perc_conference_state.specs.Steps.{join_as, join_fault, newcomer_as};
+ghost use Rattle.perc_conference_state.specs.Steps.{join_as, join_fault, newcomer_as, welcomed};
 
 use crate::conference::{Conference, Stop, Told};
 use perc_base::Profile;
 use perc_ekt::EktKeyRecord;
 use perc_kdf::Master;
+use perc_key_service::Joined;
 use perc_keyset::{Entry, Op};
 use perc_member::{Member, Newcomer};
 use perc_report_line::ReportLine;
@@ -102,19 +103,30 @@ impl Conference {
         requires profile { self.old.profile ≡ Some profile }
         requires newcomer { IsNewcomer profile newcomer.now }
         requires newest { IsRecordFor profile newest.now }
+        requires last { slice_get self.old.records.items (length self.old.records.items - 1) ≡ Some newest.now }
+        requires free { (s : State) → Mirrors self.old s → join_fault s newcomer.now ≡ None }
         ensures { (s : State) → IsOrderly s → Mirrors self.old s
             → spec.newest s.secrets ≡ Some (secret_in newest.now) → join_fault s newcomer.now ≡ None
             → Does (joined s (newcomer_as s profile newcomer.now (secret_in newest.now))) result text.old.items text.new.items self.new }
     {
         let serial = self.members.len() as u32;
         let association = (u128::from(serial) + 1).to_be_bytes();
-        let member = Member::start(alloc, profile, newcomer, association, newest)?;
+        let service = self.keys.as_mut().unwrap();
+        let joined = service.join(alloc, &association, &newcomer.client, &newcomer.server)?;
+        // What the member holds comes by its welcome, and what the distributor holds by the tunnel.
+        let member = Member::start(
+            alloc,
+            profile,
+            &welcomed(newcomer, &joined),
+            association,
+            &joined.granted,
+        )?;
         self.members.push(member)?;
         self.distributor.absorb(&Op::Add(Entry {
-            association,
+            association: joined.keys.association,
             serial,
-            client: newcomer.client,
-            server: newcomer.server,
+            client: joined.keys.client,
+            server: joined.keys.server,
         }));
         let line = ReportLine::Joined {
             name: newcomer.name,
@@ -122,6 +134,17 @@ impl Conference {
         };
         line.write(alloc, text)?;
         Ok(Told::NONE)
+    }
+}
+
+// The newcomer with the pairs that its welcome brought.
+fn welcomed(newcomer: &Newcomer, told: &Joined) -> Newcomer
+    ensures { result ≡ welcomed newcomer.now told.now }
+{
+    Newcomer {
+        client: told.client,
+        server: told.server,
+        ..*newcomer
     }
 }
 

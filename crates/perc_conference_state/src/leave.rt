@@ -11,7 +11,7 @@ use perc_word::Name;
 use std::alloc::Global;
 
 impl Conference {
-    /// Lets a member leave: its name is none any more, and the distributor forwards nothing to it.
+    /// Lets a member leave: its name is none any more, the key distributor hears of it, and the distributor forwards nothing to it.
     pub fn leave(&mut self, alloc: Global, name: Name, text: &mut Vec<u8>) -> Result<Told, Stop>
         requires running { IsRunning self.old }
         ensures { (s : State) → IsOrderly s → Mirrors self.old s
@@ -19,6 +19,8 @@ impl Conference {
     {
         let place = self.place_of(&name)?;
         let member = &mut self.members[place];
+        let service = self.keys.as_mut().unwrap();
+        service.leave(alloc, &member.association)?;
         member.present = false;
         self.distributor.absorb(&Op::Remove(member.association));
         ReportLine::Left { name }.write(alloc, text)?;

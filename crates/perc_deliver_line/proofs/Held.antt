@@ -4,7 +4,7 @@ use Rattle.std.proofs.lemmas.Option.{slice_get_read, slice_get_within}
 use Rattle.std.specs.Vec.{with_item}
 use Rattle.perc_conference_state.specs.Mirror.{IsRunning, Mirrors}
 use Rattle.perc_conference_state.specs.declared.conference.Conference as code
-use Rattle.perc_conference_state.proofs.Changing.{distributor_moved, mirrors_changed_at}
+use Rattle.perc_conference_state.proofs.Changing.{Writes, distributor_moved, keys_written, mirrors_changed_at}
 use Rattle.perc_sent.proofs.Finding.{at_within}
 use Rattle.perc_sent.proofs.Kept.{at_set}
 use Rattle.perc_conference_state.proofs.Places.{changed_at}
@@ -71,11 +71,14 @@ module _ (c : code.Conference) (place : ℕ) (a : code_member.Member) (s : State
   pub mirrors_held : IsMemberAt c place a s m → endpoint.StandsFor kept (record m.endpoint { receiving = r }) → Mirrors (with_endpoint c place a kept) (heard_state s m r)
   mirrors_held here stands =
       let mirrors = here.at.mirrors in
-      mirrors_changed_at c (with_endpoint c place a kept) s place a (record a { endpoint = kept }) m (with_receiver r) s.set here.at.orderly mirrors here.code_at here.at.at
+      let d = with_endpoint c place a kept in
+      let b : code_member.Member = record a { endpoint = kept } in
+      let writes : Writes c d place b = record { leaves = record { profile = refl; records = refl; issued = refl; datagrams = refl }; members = refl } in
+      mirrors_changed_at c d s place a b m (with_receiver r) s.set here.at.orderly mirrors here.code_at here.at.at
       (member_held a m r kept stands (mirrors.members.each place a m here.code_at here.at.at))
       (record { ssrc = refl; name = refl; first = refl; sends = refl; under = λ spi key index. refl; wrapped = λ spi key roc. refl })
-      (record { leaves = record { profile = refl; records = refl; issued = refl; datagrams = refl }; members = refl })
-      (distributor_moved c.distributor s (record s { set = s.set }) refl refl refl mirrors.distributor)
+      writes (distributor_moved c.distributor s (record s { set = s.set }) refl refl refl mirrors.distributor)
+      (keys_written c d s place a b mirrors here.code_at refl writes refl)
 
   -- The member is at the place still.
   pub stands_held : IsMemberAt c place a s m → endpoint.StandsFor kept (record m.endpoint { receiving = r })

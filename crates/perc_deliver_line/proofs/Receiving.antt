@@ -47,7 +47,7 @@ module _ (name : List ℕ) (r : Receiver) where
       (subst (λ (y : Member). AreOthers (now (get_or members i d)) y) (sym (now_at members j d second)) it)
 
   member_kept : (secrets : List Secret) (table : Table) (made : ℕ) (m : Member) → IsMember secrets table made m → IsMember secrets table made (with_receiver r m)
-  member_kept secrets table made m is = record { sending = is.sending; sender = is.sender; secret = is.secret; few = is.few; before = is.before }
+  member_kept secrets table made m is = record { sending = is.sending; sender = is.sender; secret = is.secret; few = is.few; few_control = is.few_control; before = is.before }
 
   joined_kept : (members : List Member) (row : Row) → IsOfMember members row → IsOfMember (with_member name (with_receiver r) members) row
   joined_kept members row it =

@@ -1,11 +1,7 @@
 -- What a delivery's turn is, and that it is done.
-use Rattle.std.proofs.Common.{◌≡◌, ℕ, ◌+◌, ◌-◌, ◌<◌, ◌≤◌, ◌⊎◌, inl, inr, Bool, false, cond, List, [], ◌∷◌, length, get_or, Option, Some, None, slice_get, Result, Ok, Err, refl, sym, ap, ◌∙◌, subst, arith}
-use Rattle.std.specs.Prelude.{◌==◌}
-use Rattle.std.proofs.lemmas.Bool.Decides.{nat_tests}
-use Rattle.std.proofs.lemmas.Option.{slice_get_read, slice_get_within}
+use Rattle.std.proofs.Common.{◌≡◌, ℕ, ◌⊎◌, inl, inr, Bool, false, cond, List, [], ◌∷◌, Option, Some, None, Result, Ok, Err, refl, sym, ap, ◌∙◌, subst}
 use Rattle.std.specs.Option.{option_map_or}
 use Rattle.std.specs.Borrow.{Bor}
-use Rattle.perc_conference_state.specs.Lookups.{IsDatagramPlace}
 use Rattle.perc_conference_state.specs.Mirror.{Does, Mirrors}
 use Rattle.perc_conference_state.specs.declared.conference.Conference as code
 use Rattle.perc_conference_state.specs.declared.conference.Stop.TheVariants as stop
@@ -14,13 +10,11 @@ use Rattle.perc_conference_state.specs.declared.conference.Told.{Told}
 use Rattle.perc_deliver_line.specs.Hearing.{Hears, IsHeardAs, IsToldAs, Reports, Tells, WasSent, heard_state}
 use Rattle.perc_deliver_line.specs.declared.delivering.Delivery.{Delivery}
 use Rattle.perc_deliver_line.specs.declared.delivering.Heard.TheVariants as heard
-use Rattle.perc_sent.proofs.Finding.{at_within}
 use Rattle.perc_conference_state.proofs.Turning.{one_text}
 use Rattle.perc_deliver_line.proofs.Receiving.{orderly_kept}
 use Rattle.perc_deliver_line.proofs.Rows.{accepted_row}
 use Rattle.perc_incoming.specs.Control.{IsControl, outcome_rtcp}
 use Rattle.perc_incoming.specs.declared.settling.Accepted.{Accepted}
-use Rattle.perc_member.specs.declared.datagram.Datagram as code_datagram
 use Rattle.perc_receiver.specs.Foreign.{is_foreign}
 use Rattle.perc_receiver.specs.Receiver as receiver
 use Rattle.perc_receiver.specs.Receiver.{Receiver, outcome}
@@ -252,35 +246,3 @@ not_media_does s m d octets kind result before after c is name reports mirrors =
       | inl e ↦ subst (λ (k : Carried). Does (delivered by_cipher s d.datagram m octets k) result before after c) (sym e) does
       | inr e ↦ subst (λ (k : Carried). Does (delivered by_cipher s d.datagram m octets k) result before after c) (sym e) does
     ]
-
--- ---- what is found
-
-datagram_here : (datagrams : List Datagram) (number place : ℕ) (d : Datagram) → datagram_at datagrams number ≡ Some d → number ≡ place + 1 → slice_get datagrams place ≡ Some d
-datagram_here datagrams number place d is at =
-    let some : (number == 0) ≡ false = grind (arith, nat_tests) in
-    let before : number - 1 ≡ place = omega arith in
-    subst (λ (n : ℕ). slice_get datagrams n ≡ Some d) before (subst (λ (b : Bool). cond b None (slice_get datagrams (number - 1)) ≡ Some d) some is)
-
--- A datagram of the code at a place, as the state has it by its number.
-pub record IsWire (c : code.Conference) (s : State) (number place : ℕ) : Type 0 where
-  pub datagram : Datagram
-  pub numbered : datagram_at s.datagrams number ≡ Some datagram
-  pub within : place < c.datagrams.len
-  pub few : length datagram.octets ≤ 1500
-  pub octets : (x : code_datagram.Datagram) → x ≡ get_or c.datagrams.items place x → x.octets.items ≡ datagram.octets
-
-pub wire_at : (c : code.Conference) (s : State) (number place : ℕ) → Mirrors c s → IsDatagramPlace s number (Ok place) → IsWire c s number place
-wire_at c s number place mirrors found =
-    let at = datagram_here s.datagrams number place found.0 found.1 found.2 in
-    let below = slice_get_within s.datagrams place found.0 at in
-    let count = mirrors.datagrams.count in
-    let len = c.datagrams.ok.0 in
-    let within : place < c.datagrams.len = omega arith in
-    let here = at_within c.datagrams.items place (omega arith) in
-    record {
-      datagram = found.0;
-      numbered = found.1;
-      within = within;
-      few = (mirrors.datagrams.each place here.0 found.0 here.1 at).few;
-      octets = λ x is. (mirrors.datagrams.each place x found.0 (slice_get_read c.datagrams.items c.datagrams.len place x len within is) at).octets;
-    }

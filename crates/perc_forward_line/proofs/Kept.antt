@@ -2,12 +2,14 @@
 use Rattle.std.proofs.Common.{◌≡◌, ℕ, List, [], ◌∷◌, ◌++◌, length, Option, Some, None, slice_get, refl, sym, ap, subst, ◌∙◌}
 use Rattle.std.specs.BTreeMap.{BTreeMap}
 use Rattle.std.specs.Global.{Vec}
-use Rattle.std.specs.List.{list_any}
+use Rattle.std.specs.List.{flat_map, list_any}
 use Rattle.std.specs.Prelude.{IfSome, false}
 use Rattle.std.specs.Str.{bytes_eq}
 use Rattle.std.proofs.lemmas.List.Elements.{All-weaker}
 use Rattle.perc_base.specs.Profile.{key_length}
+use Rattle.perc_conference_state.specs.Keys.{pairs_of}
 use Rattle.perc_conference_state.specs.Mirror.{Mirrors, is_issued}
+use Rattle.perc_conference_state.proofs.Served.{keys_moved}
 use Rattle.perc_conference_state.specs.declared.conference.Conference as code
 use Rattle.perc_distributor.specs.Forwarding.{Sealing}
 use Rattle.perc_distributor.specs.Inbound.{Heard}
@@ -33,6 +35,7 @@ pub record KeepsRest (c d : code.Conference) : Type 0 where
   pub records : d.records ≡ c.records
   pub issued : d.issued ≡ c.issued
   pub members : d.members ≡ c.members
+  pub keys : d.keys ≡ c.keys
 
 has_packet : (row : Row) (x y : Option Datagram) → ((d : Datagram) → x ≡ Some d → y ≡ Some d) → HasPacketOf row x → HasPacketOf row y
 has_packet row None y keeps h = absurd h
@@ -73,6 +76,9 @@ mirrors_after c d s heard sealing datagrams m rest distributor keeps made =
       issued = record { found = found; none = none };
       members = subst (λ (members : Vec code_member.Member). MirrorEach MirrorsMember members.items s.members) (sym rest.members) m.members;
       distributor = record { set = distributor.set; heard = distributor.heard; number = distributor.number; of = distributor.of; sealing = distributor.sealing };
+      keys =
+          keys_moved c d s t rest.keys (ap (λ (records : Vec EktKeyRecord). records.items) rest.records)
+          (ap (λ (members : Vec code_member.Member). flat_map pairs_of members.items) rest.members) refl refl m.keys;
       datagrams = made;
       records = subst (λ (records : Vec EktKeyRecord). IfSome s.profile (λ profile. MirrorsRecords profile records.items s.secrets)) (sym rest.records) m.records;
       none = λ e. ap (λ (records : Vec EktKeyRecord). records.items) rest.records ∙ m.none e;

@@ -15,6 +15,7 @@ use Rattle.perc_ohb.specs.Rewriting.{IsRewrite, Rewrite, block_after}
 use Rattle.perc_kdf.specs.Derivation.{session_keys}
 use Rattle.perc_kdf.specs.declared.Kind.TheVariants.{Srtp, Srtcp}
 use Rattle.perc_srtp.specs.Sealed.{sealed_body, sealed_rtcp}
+use Rattle.perc_srtp.proofs.PacketLaws.{length-sealed_body}
 use Rattle.perc_double.specs.Double.{opened, relayed}
 use Rattle.perc_double.proofs.RelayLaws.{IsHeader-relayed}
 use Rattle.perc_keyset.specs.Set.{is_of}
@@ -97,8 +98,11 @@ module _ (members : List Member) (packets : List Packet) (change : Rewrite) (may
       let body = sealed_body keys index (relayed h change) (opened inner (block_after h block change)) in
       let front = header.spelling (relayed h change) in (
         known,
-        subst (λ (o : Option Packet). IfSome o (λ (x : Packet). IsSealedOf change x ((front ++ body) ++ spelling field))) (sym there)
-            (body, record { header = IsHeader-relayed h change is may; octets = append_assoc front body (spelling field) }),
+        subst (λ (o : Option Packet). IfSome o (λ (x : Packet). IsSealedOf change x ((front ++ body) ++ spelling field))) (sym there) (
+          body,
+          length-sealed_body keys index (relayed h change) (opened inner (block_after h block change)),
+          record { header = IsHeader-relayed h change is may; octets = append_assoc front body (spelling field) },
+        ),
       )
 
   pick : (a b : Bool) (x y z : Sent × Sealing) → IsRight x.0 → IsRight y.0 → IsRight z.0 → IsRight (cond a x (cond b y z)).0

@@ -12,7 +12,7 @@ use Rattle.perc_rtp.specs.Header as header
 use Rattle.perc_rtp.specs.Header.{Header, IsPacket}
 use Rattle.perc_ohb.specs.declared.block.Ohb.{Ohb}
 use Rattle.perc_ohb.specs.Rewriting.{Rewrite, block_after, rewrite_of}
-use Rattle.perc_double.specs.Double.{IsOpened, relayed}
+use Rattle.perc_double.specs.Double.{IsOpened, opened, relayed}
 use Rattle.perc_distributor.specs.Forwarding.{Sent, Sealed, Dropped}
 use Rattle.perc_distributor.specs.Inbound.{Packet, Media, Control}
 use Rattle.perc_distributor.specs.Kept.{ArePlain, IsMedia, IsPlain, IsWhole, sent_of}
@@ -100,19 +100,23 @@ field_length p from h inner o field is room =
     omega (arith, length-take p.len p.octets, length-drop (p.len - p.field) (take p.len p.octets), is.field_within, is.within)
 
 -- what the code keeps of a packet that was sent on
-pub unsealed_mirrors : (p : Plain) (change : Rewrite) (opened : Packet) (datagram : List ℕ) (u : Unsealed) → p.rtcp ≡ false → length p.octets ≡ 1500
+pub unsealed_mirrors : (p : Plain) (change : Rewrite) (opened : Packet) (datagram : List ℕ) (u : Unsealed) → p.rtcp ≡ false → length p.octets ≡ 1500 → length datagram ≤ 1500
     → IsPlain p opened → IsSealedOf change opened datagram → u.field ≡ p.field
     → ((h : Header) (inner : List ℕ) (o : Ohb) (rest : List ℕ) → IsOpened h inner o (take (p.len - p.field) p.octets) → IsPacket (relayed h change) rest datagram → IsOpened (relayed h change) inner (block_after h o change) u.packet.items)
     → MirrorsUnsealeds datagram (Some u) (unsealed_of change opened)
-unsealed_mirrors p change (Media from h inner o field) datagram u media room is sealed same opens =
+unsealed_mirrors p change (Media from h inner o field) datagram u media room few is sealed same opens =
     let front = header.spelling (relayed h change) ++ sealed.0 in
-    let parts : datagram ≡ front ++ spelling field = sealed.1.octets ∙ sym (append_assoc (header.spelling (relayed h change)) sealed.0 (spelling field)) in
+    let parts : datagram ≡ front ++ spelling field = sealed.2.octets ∙ sym (append_assoc (header.spelling (relayed h change)) sealed.0 (spelling field)) in
     let size : length (spelling field) ≡ u.field = field_length p from h inner o field is room ∙ sym same in
+    let packet = opens h inner o (sealed.0 ++ spelling field) is.packet sealed.2 in
+    let whole = ap (λ (xs : List ℕ). length xs) packet.reads.octets in
+    let body : List ℕ = opened inner (block_after h o change) in
     record {
-      packet = opens h inner o (sealed.0 ++ spelling field) is.packet sealed.1;
+      packet = packet;
+      few = omega (arith, whole, length-append (header.spelling (relayed h change)) body, sealed.1, ap (λ (xs : List ℕ). length xs) parts, length-append front (spelling field), length-append (header.spelling (relayed h change)) sealed.0, few);
       field = behind front (spelling field) datagram u.field parts size;
       within = omega (arith, ap (λ (xs : List ℕ). length xs) parts, length-append front (spelling field));
     }
-unsealed_mirrors p change (Control from octets) datagram u media room is sealed same opens =
+unsealed_mirrors p change (Control from octets) datagram u media room few is sealed same opens =
     let other : false ≡ true = sym media ∙ is.kind in
     absurd cc

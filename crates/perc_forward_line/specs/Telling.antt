@@ -13,14 +13,14 @@ use Rattle.perc_distributor.specs.Forwarding.{Sent, Sealed, Dropped}
 use Rattle.perc_distributor.specs.Inbound.{Packet, Media, Control}
 use Rattle.perc_distributor.specs.Kept.{sent_of}
 use Rattle.perc_distributor.specs.declared.fault.InboundFault.{InboundFault}
-use Rattle.perc_double.specs.Double.{relayed}
+use Rattle.perc_double.specs.Double.{opened, relayed}
 use Rattle.perc_ekt.specs.Field.{spelling}
 use Rattle.perc_forward_line.specs.declared.outputs.Telling.{Telling}
 use Rattle.perc_forwarder.specs.Mirror.{TakesMore, SealsBatch, step_of, MirrorsTakings}
 use Rattle.perc_member.specs.Each.{MirrorsMember, MirrorEach, MirrorsDatagram}
 use Rattle.perc_member.specs.declared.datagram.Datagram as code_datagram
 use Rattle.perc_member.specs.declared.member.Member as code_member
-use Rattle.perc_ohb.specs.Rewriting.{IsRewrite, Rewrite, rewrite_of}
+use Rattle.perc_ohb.specs.Rewriting.{IsRewrite, Rewrite, block_after, rewrite_of}
 use Rattle.perc_report_line.specs.Report.{Report, report_texts}
 use Rattle.perc_rtp.specs.Header.{IsPacket}
 use Rattle.perc_run.specs.Forwarding.{Taking, are_present, associations_of, numbered, packet_in, place_of, reported_takings, takings}
@@ -29,9 +29,11 @@ use Rattle.perc_run.specs.State.{Datagram, State, datagram_at, most_datagrams}
 use Rattle.perc_script_line.specs.declared.reason.Reason.TheVariants as reason
 use Rattle.perc_word.specs.declared.name.Name as word
 
--- a datagram at whose front the header stands that a packet gets by a change, with the packet's field at its end
+-- A datagram at whose front the header stands that a packet gets by a change, with the packet's field at its end. What stands between is
+-- as long as the packet's inner octets, its block and a tag.
 abbrev pub IsSealedOf : Rewrite → Packet → List ℕ → Type 0
-IsSealedOf change (Media from h inner o field) datagram = (mid : List ℕ) × IsPacket (relayed h change) (mid ++ spelling field) datagram
+IsSealedOf change (Media from h inner o field) datagram =
+    (mid : List ℕ) × (length mid ≡ length (opened inner (block_after h o change)) + 16) × IsPacket (relayed h change) (mid ++ spelling field) datagram
 IsSealedOf change (Control from octets) datagram = Unit {0}
 
 -- whom an output is for

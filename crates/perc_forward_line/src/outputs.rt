@@ -189,6 +189,7 @@ impl<'a> Telling<'a> {
         datagram: &[u8],
     ) -> Result<Option<Unsealed>, AllocError>
         requires change { IsRewrite (rewrite_of self.now.change.now) }
+        requires few { length datagram.now ≤ 1500 }
         requires packet { (opened : Packet) × IsPlain packet.now opened × IsSealedOf (rewrite_of self.now.change.now) opened datagram.now }
         ensures { (opened : Packet) → IsPlain packet.now opened → IsSealedOf (rewrite_of self.now.change.now) opened datagram.now
             → IfOk result (λ u. MirrorsUnsealeds datagram.now u (unsealed_of (rewrite_of self.now.change.now) opened)) }

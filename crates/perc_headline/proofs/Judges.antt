@@ -13,10 +13,10 @@ use Rattle.perc_receiver.proofs.Agreeing.{outcome_is_ideal}
 use Rattle.perc_receiver.proofs.Once.{holding_more}
 use Rattle.perc_script_line.specs.Script as script
 use Rattle.perc_script_line.specs.Script.{Script, fits}
-use Rattle.perc_script_line.specs.declared.reason.Reason.TheVariants.{Datagram as NoDatagram, Form, Later, Name}
-use Rattle.perc_run.specs.State.{Datagram, State, Member, Turn, Refused, Halts, datagram_at, member_named}
+use Rattle.perc_script_line.specs.declared.reason.Reason.TheVariants.{Datagram as NoDatagram, Form, Name}
+use Rattle.perc_run.specs.State.{Datagram, State, Member, Refused, Halts, datagram_at, member_named}
 use Rattle.perc_run.specs.Delivering.{answer_line, by_cipher, by_table, deliver_turn, delivered, heard_turn}
-use Rattle.perc_run.specs.Turn.{form_turn, is_later, turn, turn_under}
+use Rattle.perc_run.specs.Turn.{form_turn, turn, turn_under}
 use Rattle.perc_run.specs.Report.{turn_at}
 use Rattle.perc_headline.specs.Headline.{Turns, acceptances}
 use Rattle.perc_run.specs.Sound.{core_of}
@@ -84,7 +84,7 @@ form_same turns s profile (script.Deliver datagram name) f = deliver_same turns 
 under_same : (turns : Turns) (s : State) (line : Script) (head : Option Profile) → Facts turns (core_of s) → turn_under by_cipher s line head ≡ turn_under by_table s line head
 under_same turns s line None f = refl
 under_same turns s line (Some profile) f =
-    ap (λ (t : Turn). cond (not (fits profile line)) (Refused Form) (cond (is_later line) (Refused Later) t)) (form_same turns s profile line f)
+    ap (cond (not (fits profile line)) (Refused Form)) (form_same turns s profile line f)
 
 -- What a line does by the ciphers, it does by the table;
 pub turn_same : (turns : Turns) (s : State) (line : Script) → Facts turns (core_of s) → turn by_cipher s line ≡ turn by_table s line

@@ -11,6 +11,7 @@ pub mod Accepted
 pub mod Quiet
 pub mod Lines
 pub mod Wires
+pub mod Hostile
 pub mod Judges
 pub mod Known
 pub mod Genuine

@@ -141,6 +141,7 @@ new_sends s profile w secret head said fit last sound =
       sender = refl;
       secret = sound.issued.last secret last;
       few = omega arith;
+      few_control = omega arith;
       before = All-nil (IsBefore (member_of s profile w secret));
     }
 
@@ -208,6 +209,7 @@ member_taken secrets table made m n s key ssrc sending issued size octets is =
       sender = is.sender;
       secret = issued;
       few = is.few;
+      few_control = is.few_control;
       before = is.before;
     })
 

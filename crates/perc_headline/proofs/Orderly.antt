@@ -6,7 +6,7 @@ use Rattle.std.specs.Prelude.{All, AllPairs, Contains, nat_le, nat_lt}
 use Rattle.std.specs.Str.{bytes_eq}
 use Rattle.std.proofs.lemmas.Bool.{eqb-true, leb-false, lt-leb, ltb-false, or_parts}
 use Rattle.std.proofs.lemmas.List.{length-map, length_push}
-use Rattle.std.proofs.lemmas.List.Elements.{All-nil, All-push, All-same}
+use Rattle.std.proofs.lemmas.List.Elements.{All-contains, All-nil, All-push, All-same}
 use Rattle.std.proofs.lemmas.Option.{same_Some}
 use Rattle.byteorder.specs.Endian.{big_bytes}
 use Rattle.perc_base.specs.declared.profile.Profile.{Profile}
@@ -34,10 +34,11 @@ use Rattle.perc_report_line.specs.Report.{Report}
 use Rattle.perc_run.specs.State.{Datagram, Goes, Halts, Member, Refused, State, Turn, at_member, datagram_at, member_named, most_datagrams, most_joins, most_members, most_spis, nobody, present_members, with_member}
 use Rattle.perc_run.specs.Keys.{ekt_turn, grant_turn, granted, rekey_turn, rekeyed, with_grant, with_rekey}
 use Rattle.perc_run.specs.Joining.{are_used, entry_of, gone, is_crowded, is_known, join_turn, join_with, joined, leave_turn, newest, pair_of}
+use Rattle.perc_run.specs.Control.{control_by, with_control}
 use Rattle.perc_run.specs.Sending.{send_turn, sent_by, sent_turn, with_send}
 use Rattle.perc_run.specs.Forwarding.{are_present, associations_of, count_recipients, forward_by, forward_turn, forwarded, numbered, packet_in, reported_takings, rewrite_by, takings}
 use Rattle.perc_run.specs.Delivering.{Judge, answer_line, control_line, deliver_turn, delivered, heard_turn, with_receiver}
-use Rattle.perc_run.specs.Turn.{first_turn, form_turn, is_later, turn, turn_under}
+use Rattle.perc_run.specs.Turn.{first_turn, form_turn, turn, turn_under}
 use Rattle.perc_run.specs.Report.{turn_at}
 use Rattle.perc_run.specs.Sound.{AreOfProfile, AreOthers, IsMember, IsOrderly, core_of, entries_from}
 use Rattle.perc_headline.proofs.Lookups.{IsFound, Keeps, at_push, changed, changed_all, found_by_name}
@@ -49,6 +50,7 @@ use Rattle.perc_headline.proofs.Lines.{Newcomer, all_others, granted_sends, join
 use Rattle.perc_headline.proofs.Wires.{after_sending, is_sender}
 use Rattle.perc_headline.proofs.Entries.{AreNumbered, SameEntry, changed_entry, entries_count, entries_push, entries_same, numbered_changed, set_stays, set_without}
 use Rattle.perc_headline.proofs.Recipients.{AreMembers, forward_few}
+use Rattle.perc_headline.proofs.Hostile.{HoldsOfAdded, HoldsOfControl, after_control_packet, alter_holds, control_keeps, control_sends, graft_holds, inject_holds, reseal_holds, rtcp_holds, with_datagram}
 use Rattle.perc_headline.proofs.Runs.{HasBounds, join_key}
 
 -- Where the line goes on, the state behind it is orderly.
@@ -364,6 +366,42 @@ unfolding send_turn
 send_orderly s w said o =
     at_name s w.name (λ m. sent_turn s m (said_content w)) (λ m found. send_by s w m (nat_le most_datagrams (length s.datagrams)) said found refl o)
 
+-- ---- inject, alter, graft, reseal and rtcp
+
+-- a datagram more on the wire
+adds : (s : State) (d : Datagram) → length s.datagrams < most_datagrams → IsOrderly s → IsOrderly (with_datagram s d)
+adds s d room o =
+    let count = length_push s.datagrams d in record {
+      sound = sound_made (core_of s) (length (s.datagrams ++ d ∷ [])) (omega arith) o.sound;
+      profiles = o.profiles;
+      clients = o.clients;
+      associations = o.associations;
+      entries = o.entries;
+      few_spis = o.few_spis;
+      few_members = o.few_members;
+      few_datagrams = omega arith;
+    }
+
+added_orderly : (s : State) → IsOrderly s → HoldsOfAdded StaysOrderly s
+added_orderly s o = record { refused = λ reason. tt; goes = λ told d quiet size room. adds s d room o }
+
+-- The change is made in the state with the datagram; who sends it was sound before.
+controls : (s : State) (m : Member) (plain : List ℕ) → Contains s.members m → length s.datagrams < most_datagrams → IsOrderly s → IsOrderly (after_control_packet s m plain)
+controls s m plain there room o =
+    let d : Datagram = control_by m plain in
+    let sends = All-contains (IsMember s.secrets s.table (length s.datagrams)) s.members m o.sound.members there in
+    member_changes (with_datagram s d) m with_control (record {
+      there = there;
+      keeps = control_keeps;
+      entry = λ n. record { association = refl; client = refl; server = refl; present = refl };
+      member = λ is. control_sends s.secrets s.table (length s.datagrams) (length (s.datagrams ++ d ∷ [])) m (length_push s.datagrams d) room sends;
+      profile = refl;
+      client = refl;
+    }) (adds s d room o)
+
+control_orderly : (s : State) (name plain : List ℕ) → IsOrderly s → HoldsOfControl StaysOrderly s name plain
+control_orderly s name plain o = record { refused = λ reason. tt; goes = λ m found room. controls s m plain found.there room o }
+
 -- ---- forward
 
 forwards : (s : State) (m : Member) (numbers : List ℕ) (change : Rewrite) (to : Option (List (List ℕ))) → Contains s.members m
@@ -453,11 +491,11 @@ form_orderly judge s profile (script.Grant name spi key) head fit said o = grant
 form_orderly judge s profile (script.Rekey name key) head fit said o = rekey_orderly s name key profile head said fit o
 form_orderly judge s profile (script.Send name pt marker timestamp payload options) head fit said o =
     send_orderly s (record { name = name; pt = pt; marker = marker; timestamp = timestamp; payload = payload; options = options }) said o
-form_orderly judge s profile (script.Rtcp name octets) head fit said o = tt
-form_orderly judge s profile (script.Inject octets) head fit said o = tt
-form_orderly judge s profile (script.Alter datagram offset octets) head fit said o = tt
-form_orderly judge s profile (script.Graft first front second back) head fit said o = tt
-form_orderly judge s profile (script.Reseal datagram name roc changes) head fit said o = tt
+form_orderly judge s profile (script.Rtcp name octets) head fit said o = rtcp_holds StaysOrderly s name octets (control_orderly s name octets o)
+form_orderly judge s profile (script.Inject octets) head fit said o = inject_holds StaysOrderly s octets (added_orderly s o)
+form_orderly judge s profile (script.Alter datagram offset octets) head fit said o = alter_holds StaysOrderly s datagram offset octets (added_orderly s o)
+form_orderly judge s profile (script.Graft first front second back) head fit said o = graft_holds StaysOrderly s first front second back (added_orderly s o)
+form_orderly judge s profile (script.Reseal datagram name roc changes) head fit said o = reseal_holds StaysOrderly s datagram name roc changes (added_orderly s o)
 form_orderly judge s profile (script.Forward name datagrams changes recipients) head fit said o = forward_orderly s name datagrams changes recipients o
 form_orderly judge s profile (script.Deliver datagram name) head fit said o = deliver_orderly judge s datagram name o
 
@@ -478,17 +516,13 @@ first_orderly s (script.Reseal datagram name roc changes) none o = tt
 first_orderly s (script.Forward name datagrams changes recipients) none o = tt
 first_orderly s (script.Deliver datagram name) none o = tt
 
-unless_later : (t : Turn) (later : Bool) → StaysOrderly t → StaysOrderly (cond later (Refused reason.Later) t)
-unless_later t true is = tt
-unless_later t false is = is
-
 where_fits : (judge : Judge) (s : State) (profile : Profile) (line : Script) (fit : Bool) → fits profile line ≡ fit → s.profile ≡ Some profile → IsScript line → IsOrderly s
-    → StaysOrderly (cond (not fit) (Refused reason.Form) (cond (is_later line) (Refused reason.Later) (form_turn judge s profile line)))
+    → StaysOrderly (cond (not fit) (Refused reason.Form) (form_turn judge s profile line))
 where_fits judge s profile line false fit head said o = tt
-where_fits judge s profile line true fit head said o = unless_later (form_turn judge s profile line) (is_later line) (form_orderly judge s profile line head fit said o)
+where_fits judge s profile line true fit head said o = form_orderly judge s profile line head fit said o
 
 under_orderly : (judge : Judge) (s : State) (line : Script) (head : Option Profile) → s.profile ≡ head → IsScript line → IsOrderly s → StaysOrderly (turn_under judge s line head)
-under_orderly judge s line None e said o = unless_later (first_turn s line) (is_later line) (first_orderly s line e o)
+under_orderly judge s line None e said o = first_orderly s line e o
 under_orderly judge s line (Some profile) e said o = where_fits judge s profile line (fits profile line) refl e said o
 
 turn_orderly : (judge : Judge) (s : State) (line : Script) → IsScript line → IsOrderly s → StaysOrderly (turn judge s line)

@@ -3,19 +3,18 @@ use Rattle.std.proofs.Common.{◌≡◌, ℕ, suc, ◌+◌, Bool, true, false, c
 use Rattle.std.specs.Prelude.{nat_lt, ◌==◌, ◌<◌, AllPairs}
 use Rattle.std.proofs.lemmas.Bool.{and_parts, eqb-false, eqb-true, ltb-false, ltb-true}
 use Rattle.std.proofs.lemmas.List.{append-nil, append_assoc}
-use Rattle.std.proofs.lemmas.List.Elements.{All-nil}
 use Rattle.perc_base.specs.Lines.{lines_of, longest}
 use Rattle.perc_base.specs.declared.profile.Profile.{Profile}
 use Rattle.perc_outgoing.specs.History.{AreOtherSeals, Seal}
 use Rattle.perc_script_line.specs.Script as script
 use Rattle.perc_script_line.specs.Script.{Deliver, IsScript, Script, fits, key_fits, pair_fits, script_of}
 use Rattle.perc_script_line.specs.declared.reason.Reason.{Reason}
-use Rattle.perc_script_line.specs.declared.reason.Reason.TheVariants.{Form, Later, Limit, Long}
+use Rattle.perc_script_line.specs.declared.reason.Reason.TheVariants.{Form, Limit, Long}
 use Rattle.perc_report_line.specs.Report.{Report}
 use Rattle.perc_run.specs.State.{State, Turn, Goes, Refused, Halts, last_line, nobody}
 use Rattle.perc_run.specs.Delivering as delivering
 use Rattle.perc_run.specs.Delivering.{Judge, by_cipher, by_table}
-use Rattle.perc_run.specs.Turn.{first_turn, form_turn, is_later, turn, turn_under}
+use Rattle.perc_run.specs.Turn.{first_turn, form_turn, turn, turn_under}
 use Rattle.perc_run.specs.Report.{Done, End, Foreign, Run, Stopped, after_turn, ended, line_or_nothing, run_behind, run_by, run_from, turn_at}
 use Rattle.perc_headline.specs.Headline.{AcceptsGenuine, DeliversForeign, EndsAtForeign, Headline, IsLineAt, Turns, state_after, state_of}
 use Rattle.perc_headline.specs.Nonces.{line_seals, run_seals}
@@ -25,11 +24,11 @@ use Rattle.perc_headline.proofs.Facts.{Facts, facts_profile, quiet_line}
 use Rattle.perc_headline.proofs.Sound.{sound_nobody}
 use Rattle.perc_headline.proofs.Lines.{IsDelivery, StaysSo, ekt_stays, grant_stays, join_stays, leave_stays, rekey_stays, stays}
 use Rattle.perc_headline.proofs.Wires.{deliver_stays, forward_stays, send_stays}
+use Rattle.perc_headline.proofs.Hostile.{added_stays, alter_holds, control_stays, graft_holds, inject_holds, reseal_holds, rtcp_holds}
 use Rattle.perc_headline.proofs.Judges.{at_same, turn_same}
 use Rattle.perc_headline.proofs.Genuine.{answered, genuine_accepts}
-use Rattle.perc_headline.proofs.Fitting.{Fits}
-use Rattle.perc_headline.proofs.Clear.{HasOrigin, IsClear, IsEntryOf, IsKept, IsSealer, wire_of}
-use Rattle.perc_headline.proofs.Nonces.{ClearBehind, turn_clear}
+use Rattle.perc_headline.proofs.Clear.{wire_of}
+use Rattle.perc_headline.proofs.Nonces.{ClearBehind, NeverTwice, never_nobody, turn_clear}
 use Rattle.perc_headline.proofs.Ends.{EndsSo, IsLineFrom, foreign_halts, halted}
 
 -- ---- one line
@@ -49,11 +48,16 @@ form_stays turns s profile (script.Grant name spi key) head fit said f = grant_s
 form_stays turns s profile (script.Rekey name key) head fit said f = rekey_stays turns s name key profile head said fit f
 form_stays turns s profile (script.Send name pt marker timestamp payload options) head fit said f =
     send_stays turns s (record { name = name; pt = pt; marker = marker; timestamp = timestamp; payload = payload; options = options }) said f
-form_stays turns s profile (script.Rtcp name octets) head fit said f = tt
-form_stays turns s profile (script.Inject octets) head fit said f = tt
-form_stays turns s profile (script.Alter datagram offset octets) head fit said f = tt
-form_stays turns s profile (script.Graft first front second back) head fit said f = tt
-form_stays turns s profile (script.Reseal datagram name roc changes) head fit said f = tt
+form_stays turns s profile (script.Rtcp name octets) head fit said f =
+    rtcp_holds (StaysSo turns (script.Rtcp name octets)) s name octets (control_stays turns s (script.Rtcp name octets) name octets f)
+form_stays turns s profile (script.Inject octets) head fit said f =
+    inject_holds (StaysSo turns (script.Inject octets)) s octets (added_stays turns s (script.Inject octets) f)
+form_stays turns s profile (script.Alter datagram offset octets) head fit said f =
+    let line : Script = script.Alter datagram offset octets in alter_holds (StaysSo turns line) s datagram offset octets (added_stays turns s line f)
+form_stays turns s profile (script.Graft first front second back) head fit said f =
+    let line : Script = script.Graft first front second back in graft_holds (StaysSo turns line) s first front second back (added_stays turns s line f)
+form_stays turns s profile (script.Reseal datagram name roc changes) head fit said f =
+    let line : Script = script.Reseal datagram name roc changes in reseal_holds (StaysSo turns line) s datagram name roc changes (added_stays turns s line f)
 form_stays turns s profile (script.Forward name datagrams changes recipients) head fit said f =
     forward_stays turns s (script.Forward name datagrams changes recipients) name datagrams changes recipients f
 form_stays turns s profile (script.Deliver datagram name) head fit said f = deliver_stays turns s datagram name f
@@ -76,19 +80,14 @@ first_stays turns s (script.Reseal datagram name roc changes) none f = tt
 first_stays turns s (script.Forward name datagrams changes recipients) none f = tt
 first_stays turns s (script.Deliver datagram name) none f = tt
 
-unless_later : (turns : Turns) (line : Script) (t : Turn) (later : Bool) → StaysSo turns line t → StaysSo turns line (cond later (Refused Later) t)
-unless_later turns line t true is = tt
-unless_later turns line t false is = is
-
 where_fits : (turns : Turns) (s : State) (profile : Profile) (line : Script) (fit : Bool) → fits profile line ≡ fit → s.profile ≡ Some profile → IsScript line → Facts turns (core_of s)
-    → StaysSo turns line (cond (not fit) (Refused Form) (cond (is_later line) (Refused Later) (form_turn by_cipher s profile line)))
+    → StaysSo turns line (cond (not fit) (Refused Form) (form_turn by_cipher s profile line))
 where_fits turns s profile line false fit head said f = tt
-where_fits turns s profile line true fit head said f =
-    unless_later turns line (form_turn by_cipher s profile line) (is_later line) (form_stays turns s profile line head fit said f)
+where_fits turns s profile line true fit head said f = form_stays turns s profile line head fit said f
 
 under_stays : (turns : Turns) (s : State) (line : Script) (head : Option Profile) → s.profile ≡ head → IsScript line → Facts turns (core_of s)
     → StaysSo turns line (turn_under by_cipher s line head)
-under_stays turns s line None e said f = unless_later turns line (first_turn s line) (is_later line) (first_stays turns s line e f)
+under_stays turns s line None e said f = first_stays turns s line e f
 under_stays turns s line (Some profile) e said f = where_fits turns s profile line (fits profile line) refl e said f
 
 turn_stays : (turns : Turns) (s : State) (line : Script) → IsScript line → Facts turns (core_of s) → StaysSo turns line (turn by_cipher s line)
@@ -110,12 +109,12 @@ pub record IsDone (judge : Judge) (turns : Turns) (s : State) : Type 0 where
   pub after : after_these judge turns ≡ s
   pub in_turn : InTurn judge turns
   pub genuine : GenuineIn judge turns
-  pub clear : IsClear (wire_of s) (run_seals judge nobody turns)
+  pub clear : NeverTwice (wire_of s) (run_seals judge nobody turns)
 
 -- What holds of a line: each genuine packet that it delivers is accepted, and no two packets were sealed alike behind it.
 record IsLineDone (s : State) (line : Script) (lines : List Report) (next : State) : Type 0 where
   genuine : (number : ℕ) (name : List ℕ) → line ≡ Deliver number name → AcceptsGenuine s number name lines
-  clear : (done : List Seal) → IsClear (wire_of s) done → IsClear (wire_of next) (done ++ line_seals s line)
+  clear : (done : List Seal) → NeverTwice (wire_of s) done → NeverTwice (wire_of next) (done ++ line_seals s line)
 
 done_more : (judge : Judge) (turns : Turns) (s : State) (line : Script) (lines : List Report) (next : State) → turn judge s line ≡ Goes lines next → IsLineDone s line lines next
     → IsDone judge turns s → IsDone judge (turns ++ (line, lines) ∷ []) next
@@ -124,7 +123,7 @@ done_more judge turns s line lines next goes last is =
       after = after_more judge turns s line lines next is.after goes;
       in_turn = in_turn_more judge turns s line lines next is.after goes is.in_turn;
       genuine = genuine_more judge turns s line lines is.after is.genuine last.genuine;
-      clear = subst (IsClear (wire_of next)) (ap (λ (x : State). seals ++ line_seals x line) (sym is.after) ∙ sym (seals_push judge nobody turns (line, lines)))
+      clear = subst (NeverTwice (wire_of next)) (ap (λ (x : State). seals ++ line_seals x line) (sym is.after) ∙ sym (seals_push judge nobody turns (line, lines)))
           (last.clear seals is.clear);
     }
 
@@ -151,15 +150,7 @@ nobody_done judge = record {
   after = refl;
   in_turn = λ k line lines at. absurd (grind arith);
   genuine = λ k number name lines at. absurd (grind arith);
-  clear = record {
-    pairs = record { others = λ i j d below within. absurd (omega arith); own = All-nil _ };
-    sealers = All-nil (IsSealer []);
-    entries = All-nil (IsEntryOf []);
-    origins = All-nil (HasOrigin []);
-    kept = All-nil (IsKept [] [] []);
-    fits = All-nil Fits;
-    apart = λ i j d below within. absurd (omega arith);
-  };
+  clear = never_nobody;
 }
 
 holds_nobody : Holds [] nobody
@@ -413,9 +404,9 @@ ends_by_table bounds octets =
 
 -- No two packets of a run are sealed alike, whoever judges.
 pub nonces_by_cipher : HasBounds → (octets : List ℕ) → AllPairs AreOtherSeals (run_seals by_cipher nobody (run_by by_cipher octets).turns)
-nonces_by_cipher bounds octets = let r = is_run bounds octets in r.holds.by_cipher.clear.apart
+nonces_by_cipher bounds octets = let r = is_run bounds octets in r.holds.by_cipher.clear.seals.apart
 
 pub nonces_by_table : HasBounds → (octets : List ℕ) → AllPairs AreOtherSeals (run_seals by_table nobody (run_by by_table octets).turns)
 nonces_by_table bounds octets =
     let r = is_run bounds octets in
-    subst (λ (run : Run). AllPairs AreOtherSeals (run_seals by_table nobody run.turns)) (one_run bounds octets) r.holds.by_table.clear.apart
+    subst (λ (run : Run). AllPairs AreOtherSeals (run_seals by_table nobody run.turns)) (one_run bounds octets) r.holds.by_table.clear.seals.apart

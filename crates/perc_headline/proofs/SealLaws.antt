@@ -1,7 +1,7 @@
 -- The seals that are told of packets are those with which they were sealed.
 use Rattle.std.proofs.Common.{ℕ, ◌+◌, ◌^◌, Bool, true, false, List, [], ◌∷◌, ◌++◌, length, drop, take, Option, Result, Ok, Err, refl}
 use Rattle.std.specs.Prelude.{nat_le, nat_lt, filter}
-use Rattle.perc_kdf.specs.Derivation.{session_keys}
+use Rattle.perc_kdf.specs.Derivation.{KeyAndSalt, session_keys}
 use Rattle.perc_kdf.specs.declared.Kind.TheVariants.{Srtp, Srtcp}
 use Rattle.perc_rtp.specs.Fields.{cut}
 use Rattle.perc_rtp.specs.Header.{Header, spelling}
@@ -11,16 +11,21 @@ use Rattle.perc_ohb.specs.Rewriting.{Rewrite, block_after}
 use Rattle.perc_ohb.specs.declared.block.Ohb.{Ohb}
 use Rattle.perc_ekt.specs.Field as field
 use Rattle.perc_ekt.specs.Field.{Field}
-use Rattle.perc_srtp.specs.Sealed.{rtcp_aad, rtcp_ssrc, rtcp_word, sealed_body, sealed_rtcp}
+use Rattle.perc_srtp.specs.Sealed.{rtcp_aad, rtcp_iv, rtcp_ssrc, rtcp_word, sealed_body, sealed_rtcp}
 use Rattle.perc_double.specs.Double.{nothing_kept, opened, relayed}
 use Rattle.perc_keyset.specs.declared.Entry.{Entry}
-use Rattle.perc_outgoing.specs.Sending.{Outgoing, sent_datagram, sent_field, sent_header, sent_inner}
-use Rattle.perc_outgoing.specs.History.{Seal, inner_seal, outer_seal}
+use Rattle.perc_outgoing.specs.Sending.{Outgoing, sent_datagram, sent_field, sent_header, sent_inner, sent_rtcp}
+use Rattle.perc_outgoing.specs.History.{HopByHop, Seal, inner_seal, outer_seal, rtcp_seal}
 use Rattle.perc_distributor.specs.declared.fault.ForwardFault.{ForwardFault}
 use Rattle.perc_distributor.specs.Inbound.{Control, Media, Packet, in_set}
 use Rattle.perc_distributor.specs.Forwarding.{Dropped, Sealed, Sealing, Sent, media_place, media_step, recipients, sealing_of, sent_each, sent_from, sent_media, sent_to, with_sealing}
 use Rattle.perc_headline.specs.Nonces.{AreSealedWith, IsSealedTwice, IsSealedWith, control_seals, hop_seal, media_seals, seals_each, seals_from, seals_to, step_seals}
 use Rattle.perc_headline.proofs.Sealing.{control_step}
+
+-- the seal of an RTCP packet under a master, at an index
+abbrev rtcp_under : KeyAndSalt → ℕ → List ℕ → Seal
+rtcp_under master index octets =
+    record { layer = HopByHop; master = master; kind = Srtcp; iv_is = rtcp_iv (session_keys master Srtcp).salt (rtcp_ssrc octets) index }
 
 -- ---- a send
 
@@ -38,6 +43,17 @@ sent_twice o content = record {
   inside = record { front = []; additional = spelling (cut (sent_header o content)); text = rest_of content; behind = block.spelling nothing_kept; is = refl };
 }
 
+-- ---- a control packet
+
+-- An RTCP packet holds its sealed text behind its first 8 octets, and in front of the word.
+rtcp_with : (master : KeyAndSalt) (index : ℕ) (octets : List ℕ) → IsSealedWith (rtcp_under master index octets) (sealed_rtcp (session_keys master Srtcp) index octets)
+unfolding sealed_rtcp
+rtcp_with master index octets = record { front = take 8 octets; additional = rtcp_aad index octets; text = drop 8 octets; behind = rtcp_word index; is = refl }
+
+-- A member's control packet is sealed with its seal.
+pub control_sealed : (o : Outgoing) (plain : List ℕ) → IsSealedWith (rtcp_seal o plain) (sent_rtcp o plain)
+control_sealed o plain = rtcp_with o.client o.rtcp plain
+
 -- ---- a forward
 
 media_with : (e : Entry) (index : ℕ) (change : Rewrite) (h : Header) (inner : List ℕ) (o : Ohb) (f : Field)
@@ -52,10 +68,6 @@ media_with e index change h inner o f = record {
   is = refl;
 }
 
-control_with : (e : Entry) (index : ℕ) (octets : List ℕ) → IsSealedWith (hop_seal e Srtcp (rtcp_ssrc octets) index) (sealed_rtcp (session_keys e.server Srtcp) index octets)
-unfolding sealed_rtcp
-control_with e index octets = record { front = take 8 octets; additional = rtcp_aad index octets; text = drop 8 octets; behind = rtcp_word index; is = refl }
-
 -- an output, and the seals of it
 abbrev IsSealedSo : Sent → List Seal → Type 0
 IsSealedSo output seals = AreSealedWith (output ∷ []) seals
@@ -69,7 +81,7 @@ control_so : (s : Sealing) (e : Entry) (place : ℕ) (octets : List ℕ) (long s
     → IsSealedSo (control_step s e place octets long spent).0 (control_seals s e octets (control_step s e place octets long spent).0)
 control_so s e place octets true spent = tt
 control_so s e place octets false true = tt
-control_so s e place octets false false = (control_with e s.rtcp octets, tt)
+control_so s e place octets false false = (rtcp_with e.server s.rtcp octets, tt)
 
 to_so : (s : Sealing) (e : Entry) (place : ℕ) (change : Rewrite) (packet : Packet) → IsSealedSo (sent_to s e place change packet).0 (seals_to s e place change packet)
 to_so s e place change (Media from h inner o f) = media_so s e place change h inner o f (media_place s.streams h inner o f change)

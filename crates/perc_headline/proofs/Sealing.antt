@@ -1,19 +1,19 @@
 -- What the distributor seals of a packet for an entry: nothing, or one packet at an index that is new, and is kept then.
-use Rattle.std.proofs.Common.{◌≡◌, ℕ, ◌+◌, ◌/◌, ◌%◌, ◌^◌, ◌<◌, ◌≤◌, Bool, true, false, cond, not, List, [], ◌∷◌, ◌++◌, length, Option, Some, None, Result, Ok, Err}
+use Rattle.std.proofs.Common.{◌≡◌, ℕ, ◌+◌, ◌/◌, ◌%◌, ◌^◌, ◌<◌, Bool, true, false, cond, not, List, [], ◌∷◌, ◌++◌, length, Option, Some, None, Result, Ok, Err}
 use Rattle.std.proofs.Common.{inl, inr, refl, sym, ap, subst, ◌∙◌, arith}
-use Rattle.std.specs.Prelude.{◌==◌, ◌||◌, nat_le, nat_lt, filter, find}
+use Rattle.std.specs.Prelude.{◌==◌, ◌&&◌, ◌||◌, nat_le, nat_lt, All, Contains, filter, find}
 use Rattle.std.specs.Option.{option_or, unwrap_or}
 use Rattle.std.proofs.lemmas.Bool.{cases_eq, eq-eqb, eqb-true, leb-false, ne_eqb}
 use Rattle.std.proofs.lemmas.Bool.Decides.{nat_tests}
+use Rattle.std.proofs.lemmas.List.Elements.{All-append, All-cons, All-contains_itself, All-filter, All-head, All-nil, All-tail}
 use Rattle.std.proofs.lemmas.List.Folds.{find-append}
 use Rattle.byteorder.specs.Endian.{big_bytes}
 use Rattle.perc_kdf.specs.Derivation.{session_keys}
 use Rattle.perc_kdf.specs.declared.Kind.{Kind}
 use Rattle.perc_kdf.specs.declared.Kind.TheVariants.{Srtp, Srtcp}
 use Rattle.perc_window.specs.Replay.{has}
-use Rattle.perc_rtp.specs.Carried.{kind_of}
-use Rattle.perc_rtp.specs.Header.{Header}
-use Rattle.perc_rtp.specs.declared.carried.Carried.TheVariants.{Rtcp}
+use Rattle.perc_rtp.specs.Header.{Header, IsHeader}
+use Rattle.perc_ohb.specs.Block.{IsOhb}
 use Rattle.perc_ohb.specs.declared.block.Ohb.{Ohb}
 use Rattle.perc_ohb.specs.Rewriting.{Rewrite}
 use Rattle.perc_ekt.specs.Field.{Field, spelling}
@@ -22,15 +22,17 @@ use Rattle.perc_srtp.specs.Streams.{tx_index}
 use Rattle.perc_srtp.specs.declared.streams.TxFault.{TxFault}
 use Rattle.perc_srtp.proofs.PacketLaws.{iv_injective, rtcp_iv_injective, tx_is_nearest, tx_once}
 use Rattle.perc_double.specs.Double.{relayed, relayed_length}
+use Rattle.perc_keyset.specs.Set.{is_of}
 use Rattle.perc_keyset.specs.declared.Entry.{Entry}
+use Rattle.perc_receiver.specs.Table.{AreOctets}
 use Rattle.perc_outer.specs.Streams.{accepted_of, is_full_for, with_index}
 use Rattle.perc_outer.proofs.Outer.{accepted_past, accepted_with}
 use Rattle.perc_outgoing.specs.History.{Seal}
 use Rattle.perc_distributor.specs.declared.fault.ForwardFault.{ForwardFault}
 use Rattle.perc_distributor.specs.declared.fault.ForwardFault.TheVariants as fault
 use Rattle.perc_distributor.specs.Inbound.{Control, Media, Packet, in_set}
-use Rattle.perc_distributor.specs.Forwarding.{Dropped, Sealed, Sealing, Sent, as_forwarded, media_place, nothing_sealed, sealing_of, sent_media, sent_to, with_sealing}
-use Rattle.perc_headline.specs.Nonces.{control_seals, hop_seal, iv_of, media_seals, seals_to}
+use Rattle.perc_distributor.specs.Forwarding.{Dropped, Sealed, Sealing, Sent, as_forwarded, is_named, is_owned, media_place, nothing_sealed, recipients, sealing_of, sent_control, sent_each, sent_media, sent_to, source_of, with_sealing}
+use Rattle.perc_headline.specs.Nonces.{control_seals, hop_seal, iv_of, media_seals, seals_each, seals_from, seals_to, step_seals}
 
 -- ---- what is kept of a serial
 
@@ -244,16 +246,73 @@ control_made s e place octets false false is = record {
   are = record { kind = Srtcp; ssrc = rtcp_ssrc octets; index = s.rtcp; is = refl; range = leb-false (2 ^ 31) s.rtcp is; new = refl; kept = omega arith };
 }
 
--- The SSRC of an opened media packet has 32 bits; and a control packet is one.
+-- The parts of a media packet are in range: its header, its inner octets, its block and its field.
+pub record HasParts (h : Header) (octets : List ℕ) (block : Ohb) (field : Field) : Type 0 where
+  pub header_is : IsHeader h
+  pub inner_is : AreOctets octets
+  pub block_is : IsOhb block
+  pub field_is : AreOctets (spelling field)
+
+-- What was opened is in range.
 abbrev pub PacketFits : Packet → Type 0
-PacketFits (Media from h inner block field) = h.ssrc < 2 ^ 32
-PacketFits (Control from octets) = (kind_of octets ≡ Rtcp) × (2 ≤ length octets)
+PacketFits (Media from h inner block field) = HasParts h inner block field
+PacketFits (Control from octets) = AreOctets octets
 
 -- What one output seals, where it isn't dropped, is new.
 pub to_seals : (s : Sealing) (e : Entry) (place : ℕ) (change : Rewrite) (packet : Packet) → PacketFits packet → Seals s (sent_to s e place change packet).1 e (seals_to s e place change packet)
-to_seals s e place change (Media from h inner block field) fits = media_made s e place change h inner block field (media_place s.streams h inner block field change) fits refl
+to_seals s e place change (Media from h inner block field) fits = media_made s e place change h inner block field (media_place s.streams h inner block field change) fits.header_is.ssrc refl
 to_seals s e place change (Control from octets) fits = control_made s e place octets (nat_lt 1500 (length octets + 20)) (nat_le (2 ^ 31) s.rtcp) refl
 
 pub step_serial : (sealing : List Sealing) (e : Entry) (place : ℕ) (change : Rewrite) (packet : Packet) → PacketFits packet
     → (sent_to (sealing_of sealing e.serial) e place change packet).1.serial ≡ e.serial
 step_serial sealing e place change packet fits = (to_seals (sealing_of sealing e.serial) e place change packet fits).serial ∙ of_serial sealing e.serial
+
+-- ---- under which masters
+
+-- A seal of the distributor is under the server pair of an entry.
+pub record IsServed (set : List Entry) (u : Seal) : Type 0 where
+  pub entry : Entry
+  pub there : Contains set entry
+  pub master : u.master ≡ entry.server
+
+one_served : (set : List Entry) (e : Entry) (u : Seal) → Contains set e → u.master ≡ e.server → All (IsServed set) (u ∷ [])
+one_served set e u there is = All-cons (IsServed set) u [] (record { entry = e; there = there; master = is }) (All-nil (IsServed set))
+
+media_served : (set : List Entry) (e : Entry) (ssrc : ℕ) (at : Result ℕ ForwardFault) → Contains set e → All (IsServed set) (media_seals e ssrc at)
+media_served set e ssrc (Err f) there = All-nil (IsServed set)
+media_served set e ssrc (Ok index) there = one_served set e (hop_seal e Srtp ssrc index) there refl
+
+control_served : (set : List Entry) (s : Sealing) (e : Entry) (octets : List ℕ) (output : Sent) → Contains set e → All (IsServed set) (control_seals s e octets output)
+control_served set s e octets (Sealed place to sealed) there = one_served set e (hop_seal e Srtcp (rtcp_ssrc octets) s.rtcp) there refl
+control_served set s e octets (Dropped place to f) there = All-nil (IsServed set)
+
+to_served : (set : List Entry) (s : Sealing) (e : Entry) (place : ℕ) (change : Rewrite) (packet : Packet) → Contains set e → All (IsServed set) (seals_to s e place change packet)
+to_served set s e place change (Media from h inner block field) there = media_served set e h.ssrc (media_place s.streams h inner block field change) there
+to_served set s e place change (Control from octets) there = control_served set s e octets (sent_control s e place octets).0 there
+
+each_served : (set entries : List Entry) (place : ℕ) (change : Rewrite) (packet : Packet) (sealing : List Sealing) → All (Contains set) entries
+    → All (IsServed set) (seals_each entries place change packet sealing)
+each_served set [] place change packet sealing there = All-nil (IsServed set)
+each_served set (e ∷ entries) place change packet sealing there =
+    let s : Sealing = sealing_of sealing e.serial in
+    let next : List Sealing = with_sealing (sent_to s e place change packet).1 sealing in
+    All-append (IsServed set) (seals_to s e place change packet) (seals_each entries place change packet next)
+    (to_served set s e place change packet (All-head (Contains set) e entries there))
+    (each_served set entries place change packet next (All-tail (Contains set) e entries there))
+
+from_served : (number of : ℕ) (set : List Entry) (place : ℕ) (batch : List Packet) (change : Rewrite) (only : Option (List (List ℕ))) (sealing : List Sealing)
+    → All (IsServed set) (seals_from number of set place batch change only sealing)
+from_served number of set place [] change only sealing = All-nil (IsServed set)
+from_served number of set place (packet ∷ batch) change only sealing =
+    let to : List Entry = recipients number of set only packet in
+    let theirs : All (Contains set) to =
+    All-filter (λ e. is_owned number of e && not (is_of (source_of packet) e) && is_named only e) (Contains set) set (All-contains_itself set) in
+    let next : List Sealing = (sent_each to place change packet sealing).1 in
+    All-append (IsServed set) (seals_each to place change packet sealing) (seals_from number of set (place + 1) batch change only next)
+    (each_served set to place change packet sealing theirs) (from_served number of set (place + 1) batch change only next)
+
+pub step_served : (number of : ℕ) (set : List Entry) (batch : List Packet) (change : Rewrite) (only : Option (List (List ℕ))) (sealing : List Sealing)
+    → All (IsServed set) (step_seals number of set batch change only sealing)
+unfolding step_seals
+step_served number of set [] change only sealing = All-nil (IsServed set)
+step_served number of set (packet ∷ batch) change only sealing = from_served number of set 0 (packet ∷ batch) change only (filter (λ x. in_set set x.serial) sealing)

@@ -63,11 +63,13 @@ right_sent c m content is right =
 sender_after : (c : Core) (m : Member) (content : Content) (made : ℕ) → made ≡ c.made + 1 → m.endpoint.sending.sending.next < 2 ^ 48 → IsMember c.secrets c.table c.made m
     → IsMember c.secrets (table_sent c m content) made (with_send m)
 sender_after c m content made count room is =
-    let few = is.few in record {
+    let few = is.few in
+    let control = is.few_control in record {
       sending = sending_sent m.endpoint.sending is.sending room;
       sender = is.sender;
       secret = is.secret;
       few = omega arith;
+      few_control = omega arith;
       before = All-push (IsBefore (with_send m)) c.table.rows (row_sent c m content)
           (All-weaker (IsBefore m) (IsBefore (with_send m)) (λ row low same. let below = low same in omega arith) c.table.rows is.before)
           (λ same. omega arith);
@@ -76,11 +78,13 @@ sender_after c m content made count room is =
 other_after : (c : Core) (m n : Member) (content : Content) (made : ℕ) → made ≡ c.made + 1 → IsMember c.secrets c.table c.made m → AreOthers n m → IsMember c.secrets c.table c.made n
     → IsMember c.secrets (table_sent c m content) made n
 other_after c m n content made count sender other is =
-    let few = is.few in record {
+    let few = is.few in
+    let control = is.few_control in record {
       sending = is.sending;
       sender = is.sender;
       secret = is.secret;
       few = omega arith;
+      few_control = omega arith;
       before = All-push (IsBefore n) c.table.rows (row_sent c m content) is.before (λ same. absurd (other.ssrc (sym same ∙ sender.sender)));
     }
 

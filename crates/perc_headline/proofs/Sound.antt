@@ -44,7 +44,9 @@ sound_profile c profile none sound =
 
 member_made : (secrets : List Secret) (table : Table) (made n : ℕ) (m : Member) → made ≤ n → IsMember secrets table made m → IsMember secrets table n m
 member_made secrets table made n m more is =
-    let few = is.few in record { sending = is.sending; sender = is.sender; secret = is.secret; few = omega arith; before = is.before }
+    let few = is.few in
+    let control = is.few_control in
+    record { sending = is.sending; sender = is.sender; secret = is.secret; few = omega arith; few_control = omega arith; before = is.before }
 
 pub sound_made : (c : Core) (n : ℕ) → c.made ≤ n → IsSound c → IsSound (record c { made = n })
 sound_made c n more sound = record {
@@ -73,6 +75,7 @@ sound_issue c profile s head right spi size sound =
         sender = is.sender;
         secret = secret_more c.secrets (s ∷ []) m.endpoint.sending.secret.spi m.endpoint.sending.secret is.secret;
         few = is.few;
+        few_control = is.few_control;
         before = is.before;
       }) c.members sound.members;
       joined = sound.joined;
@@ -107,6 +110,7 @@ sound_join c m is others sound =
         sender = is.sender;
         secret = is.secret;
         few = is.few;
+        few_control = is.few_control;
         before = All-weaker (IsOfMember c.members) (IsBefore m) (λ row joined. not_new_row c m row others joined) c.table.rows sound.joined;
       });
       joined = All-weaker (IsOfMember c.members) (IsOfMember members) (λ row it. somebody_longer (λ n. row.ssrc ≡ n.ssrc) c.members m it) c.table.rows sound.joined;
@@ -121,11 +125,14 @@ pub member_same : (secrets : List Secret) (table : Table) (made : ℕ) (m n : Me
     → IsMember secrets table made m → IsMember secrets table made n
 member_same secrets table made m n ssrc sending is =
     let next : n.endpoint.sending.sending.next ≡ m.endpoint.sending.sending.next = ap (λ (o : Outgoing). o.sending.next) sending in
-    let few = is.few in record {
+    let few = is.few in
+    let rtcp : n.endpoint.sending.rtcp ≡ m.endpoint.sending.rtcp = ap (λ (o : Outgoing). o.rtcp) sending in
+    let control = is.few_control in record {
       sending = rw sending is.sending;
       sender = ap (λ (o : Outgoing). o.sending.ssrc) sending ∙ is.sender ∙ sym ssrc;
       secret = rw sending is.secret;
       few = omega arith;
+      few_control = omega arith;
       before = All-weaker (IsBefore m) (IsBefore n) (λ row is same. let low = is (same ∙ ssrc) in omega arith) table.rows is.before;
     }
 

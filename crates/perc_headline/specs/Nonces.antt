@@ -10,7 +10,7 @@ use Rattle.perc_ohb.specs.Rewriting.{Rewrite}
 use Rattle.perc_rtp.specs.Media.{Content}
 use Rattle.perc_srtp.specs.Sealed.{iv, rtcp_iv, rtcp_ssrc}
 use Rattle.perc_keyset.specs.declared.Entry.{Entry}
-use Rattle.perc_outgoing.specs.History.{HopByHop, Seal, inner_seal, outer_seal}
+use Rattle.perc_outgoing.specs.History.{HopByHop, Seal, inner_seal, outer_seal, rtcp_seal}
 use Rattle.perc_distributor.specs.Inbound.{Control, Media, Packet, in_set}
 use Rattle.perc_distributor.specs.Forwarding.{Dropped, Sealed, Sealing, Sent, media_place, recipients, sealing_of, sent_control, sent_each, sent_to, with_sealing}
 use Rattle.perc_distributor.specs.declared.fault.ForwardFault.{ForwardFault}
@@ -18,6 +18,7 @@ use Rattle.perc_script_line.specs.Script.{Changes, Script, Nothing, Conference, 
 use Rattle.perc_run.specs.State.{Member, State, member_named}
 use Rattle.perc_run.specs.Forwarding.{associations_of, numbered, packet_in, rewrite_by, takings}
 use Rattle.perc_run.specs.Sending.{sent_by}
+use Rattle.perc_run.specs.Control.{control_by}
 use Rattle.perc_run.specs.Delivering.{Judge}
 use Rattle.perc_run.specs.Turn.{turn}
 use Rattle.perc_headline.specs.Headline.{Turns, state_of}
@@ -80,13 +81,17 @@ step_seals number of set (packet ∷ batch) change only sealing =
 abbrev pub sent_seals : Member → List Seal
 sent_seals m = inner_seal m.endpoint.sending ∷ outer_seal m.endpoint.sending ∷ []
 
+-- A member's control packet is sealed once, hop by hop.
+abbrev pub control_sent : List ℕ → Member → List Seal
+control_sent plain m = rtcp_seal m.endpoint.sending plain ∷ []
+
 -- The distributor seals what it opened.
 abbrev pub forward_seals : State → List ℕ → Changes → Option (List (List ℕ)) → Member → List Seal
 forward_seals s numbers words to m =
     step_seals 0 1 s.set (filter_map packet_in (takings s.set s.heard m.association (numbered s.datagrams numbers)).0) (rewrite_by words)
     (option_map (associations_of s) to) s.sealing
 
--- what a line seals that is done
+-- What a line seals that is done. A reseal counts for nothing: it is an act of a distributor that keeps to no index.
 abbrev pub line_seals : State → Script → List Seal
 line_seals s Nothing = []
 line_seals s (Conference profile) = []
@@ -96,7 +101,7 @@ line_seals s (Leave name) = []
 line_seals s (Grant name spi key) = []
 line_seals s (Rekey name key) = []
 line_seals s (Send name pt marker timestamp payload options) = option_map_or sent_seals (member_named name s) []
-line_seals s (Rtcp name octets) = []
+line_seals s (Rtcp name octets) = option_map_or (control_sent octets) (member_named name s) []
 line_seals s (Inject octets) = []
 line_seals s (Alter datagram offset octets) = []
 line_seals s (Graft first front second back) = []
@@ -128,6 +133,10 @@ pub record IsSealedTwice (inner outer : Seal) (octets : List ℕ) : Type 0 where
 -- What a member sends is sealed with both its seals.
 abbrev pub IsSentSealed : Member → Content → Type 0
 IsSentSealed m content = IsSealedTwice (inner_seal m.endpoint.sending) (outer_seal m.endpoint.sending) (sent_by m content).octets
+
+-- What a member sends of a control packet is sealed with its seal.
+abbrev pub IsControlSealed : Member → List ℕ → Type 0
+IsControlSealed m plain = IsSealedWith (rtcp_seal m.endpoint.sending plain) (control_by m plain).octets
 
 -- These are the seals of the outputs that aren't dropped, one after another.
 abbrev pub AreSealedWith : List Sent → List Seal → Type 0

@@ -14,14 +14,15 @@ ghost use Rattle.perc_run.specs.Delivering.{Judge, by_cipher, by_table};
 ghost use Rattle.perc_run.specs.Report.{run_by, turn_at};
 ghost use Rattle.perc_run.specs.Sound.{IsOrderly};
 ghost use Rattle.perc_headline.specs.Headline.{AreOfLines, EndsAtForeign, Headline};
-ghost use Rattle.perc_headline.specs.Nonces.{AreSealedWith, IsSentSealed, run_seals, step_seals};
+ghost use Rattle.perc_headline.specs.Nonces.{AreSealedWith, IsControlSealed, IsSentSealed, run_seals, step_seals};
 
 use perc_script_line::laws::one_spelling;
 
 /// For every script, each accept line of its report names one earlier send, as it was sent, at most once for each member; and each
 /// packet changed only in payload type, sequence number and marker that arrives fresh, inside the window and with its key known is
-/// accepted; up to the first delivery in which something opens that nobody made, where the run ends. So it is where the ciphers judge
-/// what is delivered, and where the table of what was sent does.
+/// accepted; up to the first delivery in which something opens that nobody made, where the run ends. So it is whatever datagrams an
+/// attacker makes, and whatever a hostile distributor seals; where the ciphers judge what is delivered, and where the table of what was
+/// sent does.
 pub fn accepted_once_as_sent()
     ensures by_cipher { (octets : List ℕ) → Headline by_cipher (run_by by_cipher octets).turns }
     ensures by_table { (octets : List ℕ) → Headline by_table (run_by by_table octets).turns }
@@ -49,7 +50,7 @@ pub fn ends_at_foreign()
 }
 
 /// Over the whole run of any script, no two packets are sealed in one layer under one master and kind with one IV (RFC 7714 section 8.1):
-/// neither by members nor by the distributor.
+/// neither by members nor by the distributor that forwards. What the line `reseal` seals doesn't count: it is an act of a hostile one.
 pub fn each_nonce_once()
     ensures by_cipher { (octets : List ℕ) → AllPairs AreOtherSeals (run_seals by_cipher nobody (run_by by_cipher octets).turns) }
     ensures by_table { (octets : List ℕ) → AllPairs AreOtherSeals (run_seals by_table nobody (run_by by_table octets).turns) }
@@ -58,10 +59,11 @@ pub fn each_nonce_once()
     one_spelling();
 }
 
-/// What is told to be sealed is what was sealed: a send's datagram is sealed twice, with both its seals; and the outputs of a forward that
-/// aren't dropped are sealed with its seals, one after another.
+/// What is told to be sealed is what was sealed: a send's datagram is sealed twice, with both its seals; a control packet is sealed with
+/// its one; and the outputs of a forward that aren't dropped are sealed with its seals, one after another.
 pub fn seals_of_packets()
     ensures sent { (m : Member) (content : Content) → IsSentSealed m content }
+    ensures control { (m : Member) (plain : List ℕ) → IsControlSealed m plain }
     ensures forwarded { (set : List Entry) (batch : List Packet) (change : Rewrite) (only : Option (List (List ℕ))) (sealing : List Sealing)
         → AreSealedWith (media_step 0 1 set batch change only sealing).0 (step_seals 0 1 set batch change only sealing) }
 {}

@@ -23,6 +23,7 @@ pub record MirrorEach {C D : Type 0} (Mirror : C → D → Type 0) (cs : List C)
 -- the packet before its outer seal, and the field at the end of the datagram
 pub record MirrorsUnsealed (octets : List ℕ) (c : code_unsealed.Unsealed) (u : Unsealed) : Type 0 where
   pub packet : IsOpened u.header u.inner u.block c.packet.items
+  pub few : length c.packet.items ≤ 1500
   pub field : drop (length octets - c.field) octets ≡ spelling u.field
   pub within : c.field ≤ length octets
 

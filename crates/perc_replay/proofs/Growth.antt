@@ -2,14 +2,14 @@
 use Rattle.std.proofs.Common.{◌≡◌, ℕ, ◌+◌, ◌≤◌, Bool, true, false, cond, not, List, [], ◌∷◌, ◌++◌, length, Option, Some, None, Result, Ok, Err, count_by, refl, sym, ap, ◌∙◌, arith}
 use Rattle.std.specs.List.{cons_option, filter_map, list_all, list_any}
 use Rattle.std.specs.Option.{option_map, option_map_or, is_some}
-use Rattle.std.specs.Prelude.{filter, nat_le, nat_lt, ◌*◌, ◌==◌}
+use Rattle.std.specs.Prelude.{filter, nat_le, nat_lt, ◌*◌, ◌==◌, ◌||◌}
 use Rattle.std.specs.Str.{bytes_eq}
 use Rattle.std.proofs.lemmas.Bool.{and_parts, leb-true}
 use Rattle.std.proofs.lemmas.List.{length_push}
 use Rattle.std.proofs.lemmas.List.Sums.{sum_by-append, sum_by-cons}
 use Rattle.perc_base.specs.declared.profile.Profile.{Profile}
 use Rattle.perc_conference_state.specs.Mirror.{is_accept, is_refuse, is_wire}
-use Rattle.perc_distributor.specs.Forwarding.{Dropped, Sealed, Sent, media_step}
+use Rattle.perc_distributor.specs.Forwarding.{Dropped, Sealed, Sent, media_step, most_octets}
 use Rattle.perc_distributor.specs.Inbound.{Heard, Packet, taken}
 use Rattle.perc_distributor.specs.declared.fault.InboundFault.{InboundFault}
 use Rattle.perc_endpoint.specs.Endpoint.{grant_answer, rekey_answer}
@@ -27,15 +27,18 @@ use Rattle.perc_rtp.specs.Carried.{kind_of}
 use Rattle.perc_rtp.specs.Media.{Content}
 use Rattle.perc_rtp.specs.declared.carried.Carried.{Carried}
 use Rattle.perc_rtp.specs.declared.carried.Carried.TheVariants as carried
+use Rattle.perc_run.specs.Control.{control_by, control_turn, rtcp_turn}
 use Rattle.perc_run.specs.Delivering.{Judge, answer_line, control_line, deliver_turn, delivered, heard_turn}
 use Rattle.perc_run.specs.Forwarding.{Taking, are_present, associations_of, count_recipients, forward_by, forward_turn, forwarded, loss_of, name_of, numbered, packet_in, place_behind}
 use Rattle.perc_run.specs.Forwarding.{place_of, reported_outputs, reported_taking, reported_takings, rewrite_by, takings, unsealed_of}
+use Rattle.perc_run.specs.Hostile.{added, alter_datagram, alter_turn, altered, at_datagram, graft_datagrams, graft_turn, grafted, inject_turn, made, no_graft}
+use Rattle.perc_run.specs.Hostile.{reseal_datagram, reseal_for, reseal_turn, resealed, sealed_anew, unsealed_anew}
 use Rattle.perc_run.specs.Joining.{are_used, is_crowded, is_known, join_turn, join_with, joined, leave_turn, new_member, newest, pair_of}
 use Rattle.perc_run.specs.Keys.{ekt_turn, grant_turn, granted, rekey_turn, rekeyed}
 use Rattle.perc_run.specs.Report.{turn_at}
 use Rattle.perc_run.specs.Sending.{content_of, send_turn, sent_by, sent_turn}
-use Rattle.perc_run.specs.State.{Datagram, Goes, Halts, Member, Refused, State, Turn, at_member, datagram_at, member_named, most_datagrams, most_spis}
-use Rattle.perc_run.specs.Turn.{first_turn, form_turn, is_later, turn, turn_under}
+use Rattle.perc_run.specs.State.{Datagram, Goes, Halts, Member, Refused, State, Turn, Unsealed, at_member, datagram_at, member_named, most_datagrams, most_spis}
+use Rattle.perc_run.specs.Turn.{first_turn, form_turn, turn, turn_under}
 use Rattle.perc_script_line.specs.Script as script
 use Rattle.perc_script_line.specs.Script.{Changes, IsScript, Script, fits}
 use Rattle.perc_script_line.specs.declared.reason.Reason.TheVariants as reason
@@ -150,6 +153,62 @@ unfolding send_turn
 send_grows s name content =
     at_name s name (λ m. sent_turn s m content) λ m.
     send_by s _ (report.WireUp (length s.datagrams + 1) m.name (sent_by m content).octets) (sent_by m content) (nat_le most_datagrams (length s.datagrams)) refl refl
+
+-- ---- rtcp, and hostile lines
+
+rtcp_grows : (s : State) (name plain : List ℕ) → GrowsSo s (rtcp_turn s name plain)
+unfolding rtcp_turn
+rtcp_grows s name plain =
+    at_name s name (λ m. control_turn s m plain) λ m.
+    send_by s _ (report.WireUp (length s.datagrams + 1) m.name (control_by m plain).octets) (control_by m plain) (nat_le most_datagrams (length s.datagrams)) refl refl
+
+added_grows : (s : State) (line : Report) (d : Datagram) → is_wire line ≡ true → GrowsSo s (added s line d)
+added_grows s line d wire =
+    send_by s (record s { datagrams = s.datagrams ++ d ∷ [] }) line d (nat_lt most_octets (length d.octets) || nat_le most_datagrams (length s.datagrams)) wire refl
+
+made_grows : (s : State) (octets : List ℕ) → GrowsSo s (made s octets)
+made_grows s octets = added_grows s (report.WireMade (length s.datagrams + 1) octets) (record { octets = octets; unsealed = None }) refl
+
+if_any : (s : State) (goes : Datagram → Turn) (found : Option Datagram) → ((d : Datagram) → GrowsSo s (goes d)) → GrowsSo s (option_map_or goes found (Refused reason.Datagram))
+if_any s goes None each = tt
+if_any s goes (Some d) each = each d
+
+at_number : (s : State) (number : ℕ) (goes : Datagram → Turn) → ((d : Datagram) → GrowsSo s (goes d)) → GrowsSo s (at_datagram s number goes)
+at_number s number goes each = if_any s goes (datagram_at s.datagrams number) each
+
+unless_past : (s : State) (t : Turn) (past : Bool) → GrowsSo s t → GrowsSo s (cond past (Refused reason.Datagram) t)
+unless_past s t true grows = tt
+unless_past s t false grows = grows
+
+inject_grows : (s : State) (octets : List ℕ) → GrowsSo s (inject_turn s octets)
+unfolding inject_turn
+inject_grows s octets = made_grows s octets
+
+alter_grows : (s : State) (number offset : ℕ) (new : List ℕ) → GrowsSo s (alter_turn s number offset new)
+unfolding alter_turn
+alter_grows s number offset new =
+    at_number s number (alter_datagram s offset new) λ d.
+    unless_past s (made s (altered d.octets offset new)) (nat_lt (length d.octets) (offset + length new)) (made_grows s (altered d.octets offset new))
+
+graft_grows : (s : State) (first front second back : ℕ) → GrowsSo s (graft_turn s first front second back)
+unfolding graft_turn
+graft_grows s first front second back =
+    at_number s first (λ a. at_datagram s second (λ b. graft_datagrams s front back a b)) λ a.
+    at_number s second (λ b. graft_datagrams s front back a b) λ b.
+    unless_past s (made s (grafted a.octets front b.octets back)) (no_graft a.octets front b.octets back) (made_grows s (grafted a.octets front b.octets back))
+
+resealed_grows : (s : State) (m : Member) (roc : ℕ) (change : Rewrite) (u : Option Unsealed)
+    → GrowsSo s (option_map_or (λ x. reseal_for s m roc (unsealed_anew x change)) u (Refused reason.Datagram))
+resealed_grows s m roc change None = tt
+resealed_grows s m roc change (Some u) =
+    let new = unsealed_anew u change in
+    added_grows s (report.WireReseal (length s.datagrams + 1) m.name (sealed_anew m roc new)) (resealed m roc new) refl
+
+reseal_grows : (s : State) (number : ℕ) (name : List ℕ) (roc : ℕ) (words : Changes) → GrowsSo s (reseal_turn s number name roc words)
+unfolding reseal_turn
+reseal_grows s number name roc words =
+    at_name s name (λ m. at_datagram s number (reseal_datagram s m roc (rewrite_by words))) λ m.
+    at_number s number (reseal_datagram s m roc (rewrite_by words)) λ d. resealed_grows s m roc (rewrite_by words) d.unsealed
 
 -- ---- forward
 
@@ -293,11 +352,11 @@ form_grows judge s profile (script.Leave name) said = leave_grows s name
 form_grows judge s profile (script.Grant name spi key) said = grant_grows s name spi key
 form_grows judge s profile (script.Rekey name key) said = rekey_grows s name key
 form_grows judge s profile (script.Send name pt marker timestamp payload options) said = send_grows s name (content_of pt marker timestamp payload options)
-form_grows judge s profile (script.Rtcp name octets) said = tt
-form_grows judge s profile (script.Inject octets) said = tt
-form_grows judge s profile (script.Alter datagram offset octets) said = tt
-form_grows judge s profile (script.Graft first front second back) said = tt
-form_grows judge s profile (script.Reseal datagram name roc changes) said = tt
+form_grows judge s profile (script.Rtcp name octets) said = rtcp_grows s name octets
+form_grows judge s profile (script.Inject octets) said = inject_grows s octets
+form_grows judge s profile (script.Alter datagram offset octets) said = alter_grows s datagram offset octets
+form_grows judge s profile (script.Graft first front second back) said = graft_grows s first front second back
+form_grows judge s profile (script.Reseal datagram name roc changes) said = reseal_grows s datagram name roc changes
 form_grows judge s profile (script.Forward name datagrams changes recipients) said = forward_grows s name datagrams changes recipients (few_numbers datagrams said.1)
 form_grows judge s profile (script.Deliver datagram name) said = deliver_grows judge s datagram name
 
@@ -318,19 +377,13 @@ first_grows s (script.Reseal datagram name roc changes) = tt
 first_grows s (script.Forward name datagrams changes recipients) = tt
 first_grows s (script.Deliver datagram name) = tt
 
-unless_later : (s : State) (t : Turn) (later : Bool) → GrowsSo s t → GrowsSo s (cond later (Refused reason.Later) t)
-unless_later s t true grows = tt
-unless_later s t false grows = grows
-
 unless_unfit : (s : State) (t : Turn) (unfit : Bool) → GrowsSo s t → GrowsSo s (cond unfit (Refused reason.Form) t)
 unless_unfit s t true grows = tt
 unless_unfit s t false grows = grows
 
 under_grows : (judge : Judge) (s : State) (line : Script) (head : Option Profile) → IsScript line → GrowsSo s (turn_under judge s line head)
-under_grows judge s line None said = unless_later s (first_turn s line) (is_later line) (first_grows s line)
-under_grows judge s line (Some profile) said =
-    unless_unfit s (cond (is_later line) (Refused reason.Later) (form_turn judge s profile line)) (not (fits profile line))
-    (unless_later s (form_turn judge s profile line) (is_later line) (form_grows judge s profile line said))
+under_grows judge s line None said = first_grows s line
+under_grows judge s line (Some profile) said = unless_unfit s (form_turn judge s profile line) (not (fits profile line)) (form_grows judge s profile line said)
 
 turn_grows : (judge : Judge) (s : State) (line : Script) → IsScript line → GrowsSo s (turn judge s line)
 unfolding turn

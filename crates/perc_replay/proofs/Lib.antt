@@ -1,5 +1,4 @@
 mod Growth
-mod Starting
 mod Saying
 mod Turning
 mod LineFeeds

@@ -1,5 +1,5 @@
 -- What a line says is what it does.
-use Rattle.std.proofs.Common.{◌≡◌, ℕ, Bool, true, false, cond, not, List, Option, Some, Result, Ok, Err, refl, sym, ◌∙◌, subst}
+use Rattle.std.proofs.Common.{◌≡◌, ℕ, Bool, true, false, cond, not, List, [], Option, Some, Result, Ok, Err, refl, sym, ◌∙◌, subst}
 use Rattle.std.proofs.lemmas.List.{append-nil}
 use Rattle.perc_base.specs.declared.profile.Profile.{Profile}
 use Rattle.perc_conference_state.specs.Mirror.{Does, Mirrors}
@@ -11,11 +11,11 @@ use Rattle.perc_kdf.specs.Derivation.{KeyAndSalt}
 use Rattle.perc_run.specs.Delivering.{by_cipher}
 use Rattle.perc_run.specs.Joining.{join_turn, join_with, newest, pair_of}
 use Rattle.perc_run.specs.Report.{turn_at}
-use Rattle.perc_run.specs.State.{Refused, State, Turn}
+use Rattle.perc_run.specs.State.{Goes, Refused, State, Turn}
 use Rattle.perc_run.specs.Turn.{first_turn, form_turn, turn_under, turn}
 use Rattle.perc_script_line.specs.Script as script
 use Rattle.perc_script_line.specs.Script.{Script, script_of}
-use Rattle.perc_script_line.specs.declared.reason.Reason.TheVariants.{Form, Later}
+use Rattle.perc_script_line.specs.declared.reason.Reason.TheVariants.{Form}
 
 -- ---- a line that is read
 
@@ -26,15 +26,6 @@ unfolding turn
 says c d s octets line head r before after said is mirrors does =
     subst (λ (o : Option Script). Does (turn_at by_cipher s o) r before after d) said
     (subst (λ (h : Option Profile). Does (turn_under by_cipher s line h) r before after d) (sym is ∙ mirrors.profile) does)
-
-pub is_unbuilt : (t : Turn) (later : Bool) (before after : List ℕ) (c : code.Conference) → later ≡ true → Does (cond later (Refused Later) t) (Err (stop.Refused Later)) before after c
-is_unbuilt t true before after c is = refl
-is_unbuilt t false before after c is = absurd cc
-
-pub is_built : (t : Turn) (later : Bool) (r : Result Told Stop) (before after : List ℕ) (c : code.Conference) → later ≡ false → Does t r before after c
-    → Does (cond later (Refused Later) t) r before after c
-is_built t true r before after c is does = absurd cc
-is_built t false r before after c is does = does
 
 pub is_unfit : (t : Turn) (fit : Bool) (before after : List ℕ) (c : code.Conference) → fit ≡ false → Does (cond (not fit) (Refused Form) t) (Err (stop.Refused Form)) before after c
 is_unfit t true before after c is = absurd cc
@@ -53,6 +44,10 @@ none_told = record { datagrams = 0; accepted = 0; refused = 0 }
 
 pub nothing_first : (s : State) (line : Script) (text : List ℕ) (c : code.Conference) → line ≡ script.Nothing → Mirrors c s → Does (first_turn s line) (Ok none_told) text text c
 nothing_first s line text c is mirrors = subst (λ (l : Script). Does (first_turn s l) (Ok none_told) text text c) (sym is) (sym (append-nil text), refl, mirrors)
+
+pub head_first : (s : State) (profile : Profile) (line : Script) (r : Result Told Stop) (text : List ℕ) (c : code.Conference) → line ≡ script.Conference profile
+    → Does (Goes [] (record s { profile = Some profile })) r text text c → Does (first_turn s line) r text text c
+head_first s profile line r text c is does = subst (λ (l : Script). Does (first_turn s l) r text text c) (sym is) does
 
 pub nothing_does : (s : State) (profile : Profile) (line : Script) (text : List ℕ) (c : code.Conference) → line ≡ script.Nothing → Mirrors c s
     → Does (form_turn by_cipher s profile line) (Ok none_told) text text c

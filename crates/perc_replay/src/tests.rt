@@ -99,7 +99,6 @@ fn end_for(
 #[test]
 fn before_the_head(rt: HostRuntime) -> Result<(), Fail> {
     let order = Reason::Order;
-    let later = Reason::Later;
     end_for(
         &rt,
         rt.alloc(),
@@ -118,12 +117,11 @@ fn before_the_head(rt: HostRuntime) -> Result<(), Fail> {
             (&["send Ann 0 0 0 -"], order),
             (&["forward Ann 1"], order),
             (&["deliver 1 Ann"], order),
-            (&["conference 000a"], later),
-            (&["rtcp Ann 80c8000000000000"], later),
-            (&["inject 00"], later),
-            (&["alter 1 0 00"], later),
-            (&["graft 1 0 1 0"], later),
-            (&["reseal 1 Ann 0"], later),
+            (&["rtcp Ann 80c8000000000000"], order),
+            (&["inject 00"], order),
+            (&["alter 1 0 00"], order),
+            (&["graft 1 0 1 0"], order),
+            (&["reseal 1 Ann 0"], order),
             (&["conference 0008"], Reason::Form),
             (&["inject"], Reason::Form),
             (&["ekt ", KEY], Reason::Form),
@@ -141,7 +139,7 @@ fn before_a_record(rt: HostRuntime) -> Result<(), Fail> {
         &[HEAD],
         &[
             (&["conference 0009"], Reason::Order),
-            (&["conference 000a"], Reason::Later),
+            (&["conference 000a"], Reason::Order),
             (&["conference 000b"], Reason::Form),
             (&["ekt ", LONG_KEY, " ", SALT], Reason::Form),
             (
@@ -166,11 +164,13 @@ fn before_a_record(rt: HostRuntime) -> Result<(), Fail> {
             (&["forward Ann 1"], name),
             (&["forward Ann 0 to=Bob"], name),
             (&["deliver 0 Ann"], name),
-            (&["rtcp Ann 80c8000000000000"], Reason::Later),
-            (&["inject 00"], Reason::Later),
-            (&["alter 1 0 00"], Reason::Later),
-            (&["graft 1 0 1 0"], Reason::Later),
-            (&["reseal 1 Ann 0"], Reason::Later),
+            (&["rtcp Ann 80c8000000000000"], name),
+            (&["rtcp Ann 80c80000000000"], Reason::Form),
+            (&["rtcp Ann 40c8000000000000"], Reason::Form),
+            (&["rtcp Ann 80bf000000000000"], Reason::Form),
+            (&["alter 1 0 00"], Reason::Datagram),
+            (&["graft 1 0 1 0"], Reason::Datagram),
+            (&["reseal 1 Ann 0"], name),
         ],
     )
 }
@@ -251,6 +251,55 @@ fn datagrams(rt: HostRuntime) -> Result<(), Fail> {
     )
 }
 
+// Ann's datagram 1 has 97 octets, datagram 2 as many and 5 of the block, which the distributor made of it; 3 is a copy, and 4 no media.
+const HOSTILE: &str = "alter 2 0 80\ninject 00\nrtcp Ann 80c8000111111111\n";
+
+#[test]
+fn hostile_lines(rt: HostRuntime) -> Result<(), Fail> {
+    let name = Reason::Name;
+    let datagram = Reason::Datagram;
+    let long = format!(in rt.alloc(); "inject {0:03000}", 0)?;
+    let longer = format!(in rt.alloc(); "inject {0:03002}", 0)?;
+    let longest = format!(in rt.alloc(); "{long}\n")?;
+    end_for(
+        &rt,
+        rt.alloc(),
+        &[ISSUED, ANN, BOB, SENT, HOSTILE, &longest],
+        &[
+            (&["inject"], Reason::Form),
+            (&["inject -"], Reason::Form),
+            (&["inject 0"], Reason::Form),
+            (&[&longer], Reason::Form),
+            (&["alter 0 0 00"], datagram),
+            (&["alter 7 0 00"], datagram),
+            (&["alter 4 1 00"], datagram),
+            (&["alter 4 0 0000"], datagram),
+            (&["alter 4 4294967295 00"], datagram),
+            (&["alter 4 4294967296 00"], Reason::Form),
+            (&["graft 0 1 1 1"], datagram),
+            (&["graft 1 1 0 1"], datagram),
+            (&["graft 7 0 1 1"], datagram),
+            (&["graft 1 1 7 0"], datagram),
+            (&["graft 4 2 1 0"], datagram),
+            (&["graft 1 0 4 2"], datagram),
+            (&["graft 1 4294967295 4 4294967295"], datagram),
+            (&["graft 1 0 4 0"], datagram),
+            (&["graft 6 1500 4 1"], Reason::Limit),
+            (&["graft 4 1 6 1500"], Reason::Limit),
+            (&["graft 6 1501 4 0"], datagram),
+            (&["reseal 1 Cat 0"], name),
+            (&["reseal 9 Cat 0"], name),
+            (&["reseal 0 Bob 0"], datagram),
+            (&["reseal 7 Bob 0"], datagram),
+            (&["reseal 3 Bob 0"], datagram),
+            (&["reseal 4 Bob 0"], datagram),
+            (&["reseal 5 Bob 0"], datagram),
+            (&["reseal 1 Bob 0 marker=1 pt=1"], Reason::Form),
+            (&["rtcp Cat 80c8000111111111"], name),
+        ],
+    )
+}
+
 #[test]
 fn who_left(rt: HostRuntime) -> Result<(), Fail> {
     let name = Reason::Name;
@@ -263,6 +312,8 @@ fn who_left(rt: HostRuntime) -> Result<(), Fail> {
             (&["send Ann 0 0 0 -"], name),
             (&["rekey Ann ", KEY], name),
             (&["grant Ann 1 ", KEY], name),
+            (&["rtcp Ann 80c8000111111111"], name),
+            (&["reseal 1 Ann 0"], name),
             (&["forward Ann 1"], name),
             (&["forward Bob 1 to=Ann"], name),
             (&["deliver 1 Ann"], name),
@@ -302,11 +353,54 @@ fn ends_at_limit(rt: &impl Abort, alloc: Global, script: Vec<u8>) {
     assert_eq!(rt; refused_at(alloc, script), Some((lines, Reason::Limit)));
 }
 
+// A script in which so many keys are issued.
+fn keys_issued(alloc: Global, count: usize) -> Result<Vec<u8>, Fail> {
+    let mut script = Vec::new(alloc);
+    script.extend_from_slice(HEAD.as_bytes())?;
+    for i in 0..count {
+        let line = format!(in alloc; "ekt {i:032x} {SALT}\n")?;
+        script.extend_from_slice(line.as_bytes())?;
+    }
+    Ok(script)
+}
+
+// A script in which so many datagrams come to the wire before a last line.
+fn injects(alloc: Global, count: usize, last: &str) -> Result<Vec<u8>, Fail> {
+    let mut script = Vec::new(alloc);
+    append(&mut script, &[ISSUED, ANN, BOB, SEND])?;
+    for _ in 1..count {
+        script.extend_from_slice(b"inject 00\n")?;
+    }
+    script.extend_from_slice(last.as_bytes())?;
+    Ok(script)
+}
+
 #[test]
 fn limits(rt: HostRuntime) -> Result<(), Fail> {
     let alloc = rt.alloc();
     ends_at_limit(&rt, alloc, joins(alloc, 65, false)?);
     ends_at_limit(&rt, alloc, joins(alloc, 257, true)?);
+    ends_at_limit(&rt, alloc, keys_issued(alloc, 65536)?);
+    Ok(())
+}
+
+// With as many datagrams as there may be, no line makes one more; and a forward counts each of its list for each that gets it.
+#[test]
+fn datagrams_at_most(rt: HostRuntime) -> Result<(), Fail> {
+    let alloc = rt.alloc();
+    let lasts = [
+        "send Ann 0 0 0 -\n",
+        "inject 00\n",
+        "alter 2 0 00\n",
+        "graft 2 1 2 0\n",
+        "reseal 1 Bob 0\n",
+        "rtcp Ann 80c8000111111111\n",
+        "forward Ann 1\n",
+    ];
+    for last in lasts {
+        ends_at_limit(&rt, alloc, injects(alloc, 131072, last)?);
+    }
+    ends_at_limit(&rt, alloc, injects(alloc, 131071, "forward Ann 1,2\n")?);
     Ok(())
 }
 

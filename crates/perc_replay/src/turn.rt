@@ -6,18 +6,19 @@ ghost use Rattle.perc_run.specs.Sound.{IsOrderly};
 ghost use Rattle.perc_run.specs.State.{State};
 ghost use Rattle.perc_run.specs.Delivering.{by_cipher};
 ghost use Rattle.perc_run.specs.Report.{turn_at};
-ghost use Rattle.perc_run.specs.Turn as spec;
 ghost use Rattle.perc_run.specs.Turn.{first_turn, form_turn};
 ghost use Rattle.perc_conference_state.specs.Mirror.{Does, IsRunning, Mirrors};
-ghost use Rattle.perc_replay.specs.Steps.{IsOfMedia};
+ghost use Rattle.perc_replay.specs.Steps.{IsOfDatagrams, IsOfWire};
 
 use perc_base::Profile;
 use perc_conference_state::{Conference, Sending, Stop, Told};
 use perc_deliver_line::{Delivery, deliver};
 use perc_forward_line::forward;
 use perc_member::{Key, Newcomer, pair_in};
+use perc_reseal_line::{Resealing, reseal};
 use perc_script_line::laws::one_spelling;
 use perc_script_line::{Reason, ScriptLine};
+use perc_wire_lines::{Grafting, alter, graft, inject, rtcp};
 use std::alloc::Global;
 
 /// Does what a line of a script says, and appends what it reports to the text.
@@ -35,16 +36,10 @@ pub fn turn(
         return Err(Stop::Refused(Reason::Form));
     };
     let Some(profile) = conference.profile else {
-        if is_later(&said) {
-            return Err(Stop::Refused(Reason::Later));
-        }
-        return first_turn(conference, &said);
+        return first_turn(conference, alloc, &said);
     };
     if !said.fits(profile) {
         return Err(Stop::Refused(Reason::Form));
-    }
-    if is_later(&said) {
-        return Err(Stop::Refused(Reason::Later));
     }
     // The words of a line that is read have their bounds.
     one_spelling();
@@ -52,7 +47,11 @@ pub fn turn(
 }
 
 // Does a line before the head, which reports nothing.
-fn first_turn(conference: &mut Conference, said: &ScriptLine<'_>) -> Result<Told, Stop>
+fn first_turn(
+    conference: &mut Conference,
+    alloc: Global,
+    said: &ScriptLine<'_>,
+) -> Result<Told, Stop>
     requires running { IsRunning conference.old }
     requires head { conference.old.profile ≡ None }
     ensures { (s : State) (text : List ℕ) → IsOrderly s → Mirrors conference.old s
@@ -60,15 +59,12 @@ fn first_turn(conference: &mut Conference, said: &ScriptLine<'_>) -> Result<Told
 {
     match said {
         ScriptLine::Nothing => Ok(Told::NONE),
-        ScriptLine::Conference { profile } => {
-            conference.profile = Some(*profile);
-            Ok(Told::NONE)
-        }
+        ScriptLine::Conference { profile } => conference.open(alloc, *profile),
         _ => Err(Stop::Refused(Reason::Order)),
     }
 }
 
-// Does a line behind the head that is built.
+// Does a line behind the head.
 fn form_turn(
     conference: &mut Conference,
     alloc: Global,
@@ -80,7 +76,6 @@ fn form_turn(
     requires profile { conference.old.profile ≡ Some profile }
     requires script { IsScript (script_said said) }
     requires fits { fits profile (script_said said) ≡ true }
-    requires built { spec.is_later (script_said said) ≡ false }
     ensures { (s : State) → IsOrderly s → Mirrors conference.old s
         → Does (form_turn by_cipher s profile (script_said said.entry)) result text.old.items text.new.items conference.new }
 {
@@ -109,12 +104,12 @@ fn form_turn(
         ScriptLine::Leave { name } => conference.leave(alloc, name, text),
         ScriptLine::Grant { name, spi, key } => conference.grant(alloc, name, spi, &key, text),
         ScriptLine::Rekey { name, key } => conference.rekey(alloc, name, &key, text),
-        said => media_turn(conference, alloc, profile, said, text),
+        said => datagram_turn(conference, alloc, profile, said, text),
     }
 }
 
-// Does a line behind the head that is of media, and built.
-fn media_turn(
+// Does a line behind the head that makes or moves datagrams.
+fn datagram_turn(
     conference: &mut Conference,
     alloc: Global,
     profile: Profile,
@@ -124,7 +119,8 @@ fn media_turn(
     requires running { IsRunning conference.old }
     requires profile { conference.old.profile ≡ Some profile }
     requires script { IsScript (script_said said) }
-    ensures { (s : State) → IsOrderly s → Mirrors conference.old s → IsOfMedia (script_said said.entry)
+    requires datagrams { IsOfDatagrams (script_said said) }
+    ensures { (s : State) → IsOrderly s → Mirrors conference.old s
         → Does (form_turn by_cipher s profile (script_said said.entry)) result text.old.items text.new.items conference.new }
 {
     match said {
@@ -161,22 +157,60 @@ fn media_turn(
                 text,
             )
         }
-        _ => Err(Stop::Refused(Reason::Later)),
+        said => wire_turn(conference, alloc, profile, said, text),
     }
 }
 
-// Whether a line's form isn't built.
-fn is_later(said: &ScriptLine<'_>) -> bool
-    ensures { result ≡ spec.is_later (script_said said.now) }
+// Does a line behind the head that puts one datagram on the wire, but for a send.
+fn wire_turn(
+    conference: &mut Conference,
+    alloc: Global,
+    profile: Profile,
+    said: ScriptLine<'_>,
+    text: &mut Vec<u8>,
+) -> Result<Told, Stop>
+    requires running { IsRunning conference.old }
+    requires profile { conference.old.profile ≡ Some profile }
+    requires script { IsScript (script_said said) }
+    requires wire { IsOfWire (script_said said) }
+    ensures { (s : State) → IsOrderly s → Mirrors conference.old s
+        → Does (form_turn by_cipher s profile (script_said said.entry)) result text.old.items text.new.items conference.new }
 {
-    matches!(
-        said,
-        ScriptLine::Conference {
-            profile: Profile::Aes256
-        } | ScriptLine::Rtcp { .. }
-            | ScriptLine::Inject { .. }
-            | ScriptLine::Alter { .. }
-            | ScriptLine::Graft { .. }
-            | ScriptLine::Reseal { .. }
-    )
+    match said {
+        ScriptLine::Rtcp { name, octets } => rtcp(conference, alloc, name, &octets, text),
+        ScriptLine::Inject { octets } => inject(conference, alloc, &octets, text),
+        ScriptLine::Alter {
+            datagram,
+            offset,
+            octets,
+        } => alter(conference, alloc, datagram, offset, &octets, text),
+        ScriptLine::Graft {
+            first,
+            front,
+            second,
+            back,
+        } => {
+            let grafting = Grafting {
+                first,
+                front,
+                second,
+                back,
+            };
+            graft(conference, alloc, &grafting, text)
+        }
+        ScriptLine::Reseal {
+            datagram,
+            name,
+            roc,
+            changes,
+        } => {
+            let resealing = Resealing {
+                datagram,
+                name,
+                roc,
+            };
+            reseal(conference, alloc, &resealing, &changes, text)
+        }
+        _ => unreachable!(),
+    }
 }

@@ -2,7 +2,9 @@ pub mod State
 pub mod Keys
 pub mod Joining
 pub mod Sending
+pub mod Control
 pub mod Forwarding
+pub mod Hostile
 pub mod Delivering
 pub mod Turn
 pub mod Sound

@@ -46,12 +46,14 @@ pub record AreIssued (secrets : List Secret) : Type 0 where
 abbrev pub IsBefore : Member → Row → Type 0
 IsBefore m row = row.ssrc ≡ m.ssrc → row.index < m.endpoint.sending.sending.next
 
--- A member sends under its own SSRC, under a secret that was issued. Its first index is below 65536, and each packet is a datagram.
+-- A member sends under its own SSRC, under a secret that was issued. Its first index is below 65536, its first RTCP index is 0, and each
+-- packet is a datagram.
 pub record IsMember (secrets : List Secret) (table : Table) (made : ℕ) (m : Member) : Type 0 where
   pub sending : IsSending m.endpoint.sending
   pub sender : m.endpoint.sending.sending.ssrc ≡ m.ssrc
   pub secret : secret_of secrets m.endpoint.sending.secret.spi ≡ Some m.endpoint.sending.secret
   pub few : m.endpoint.sending.sending.next ≤ 65535 + made
+  pub few_control : m.endpoint.sending.rtcp ≤ made
   pub before : All (IsBefore m) table.rows
 
 abbrev pub IsOfMember : List Member → Row → Type 0

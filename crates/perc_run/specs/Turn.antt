@@ -1,35 +1,17 @@
 -- What one line of a script does.
-use Rattle.std.specs.Prelude.{ℕ, Bool, true, false, not, if◌then◌else◌, [], Option, Some, None}
+use Rattle.std.specs.Prelude.{ℕ, not, if◌then◌else◌, [], Option, Some, None}
 use Rattle.perc_base.specs.declared.profile.Profile.{Profile}
-use Rattle.perc_base.specs.declared.profile.Profile.TheVariants.{Aes128, Aes256}
 use Rattle.perc_script_line.specs.Script as script
 use Rattle.perc_script_line.specs.Script.{Script, fits}
-use Rattle.perc_script_line.specs.declared.reason.Reason.TheVariants.{Form, Later, Order}
+use Rattle.perc_script_line.specs.declared.reason.Reason.TheVariants.{Form, Order}
 use Rattle.perc_run.specs.State.{State, Turn, Goes, Refused}
 use Rattle.perc_run.specs.Keys.{ekt_turn, grant_turn, rekey_turn}
 use Rattle.perc_run.specs.Joining.{join_turn, leave_turn}
 use Rattle.perc_run.specs.Sending.{content_of, send_turn}
+use Rattle.perc_run.specs.Control.{rtcp_turn}
+use Rattle.perc_run.specs.Hostile.{alter_turn, graft_turn, inject_turn, reseal_turn}
 use Rattle.perc_run.specs.Forwarding.{forward_turn}
 use Rattle.perc_run.specs.Delivering.{Judge, deliver_turn}
-
--- The lines that aren't built yet.
-abbrev pub is_later : Script → Bool
-is_later script.Nothing = false
-is_later (script.Conference Aes128) = false
-is_later (script.Conference Aes256) = true
-is_later (script.Ekt key salt) = false
-is_later (script.Join name ssrc seq client server key) = false
-is_later (script.Leave name) = false
-is_later (script.Grant name spi key) = false
-is_later (script.Rekey name key) = false
-is_later (script.Send name pt marker timestamp payload options) = false
-is_later (script.Rtcp name octets) = true
-is_later (script.Inject octets) = true
-is_later (script.Alter datagram offset octets) = true
-is_later (script.Graft first front second back) = true
-is_later (script.Reseal datagram name roc changes) = true
-is_later (script.Forward name datagrams changes recipients) = false
-is_later (script.Deliver datagram name) = false
 
 -- what a line does behind the head
 abbrev pub form_turn : Judge → State → Profile → Script → Turn
@@ -42,11 +24,11 @@ form_turn judge s profile (script.Grant name spi key) = grant_turn s name spi ke
 form_turn judge s profile (script.Rekey name key) = rekey_turn s name key
 form_turn judge s profile (script.Send name pt marker timestamp payload options) =
     send_turn s name (content_of pt marker timestamp payload options)
-form_turn judge s profile (script.Rtcp name octets) = Refused Later
-form_turn judge s profile (script.Inject octets) = Refused Later
-form_turn judge s profile (script.Alter datagram offset octets) = Refused Later
-form_turn judge s profile (script.Graft first front second back) = Refused Later
-form_turn judge s profile (script.Reseal datagram name roc changes) = Refused Later
+form_turn judge s profile (script.Rtcp name octets) = rtcp_turn s name octets
+form_turn judge s profile (script.Inject octets) = inject_turn s octets
+form_turn judge s profile (script.Alter datagram offset octets) = alter_turn s datagram offset octets
+form_turn judge s profile (script.Graft first front second back) = graft_turn s first front second back
+form_turn judge s profile (script.Reseal datagram name roc changes) = reseal_turn s datagram name roc changes
 form_turn judge s profile (script.Forward name datagrams changes recipients) = forward_turn s name datagrams changes recipients
 form_turn judge s profile (script.Deliver datagram name) = deliver_turn judge s datagram name
 
@@ -70,10 +52,8 @@ first_turn s (script.Deliver datagram name) = Refused Order
 
 -- The keys of a line have the length of the head's profile; where there is no head, either length serves.
 abbrev pub turn_under : Judge → State → Script → Option Profile → Turn
-turn_under judge s line None = if is_later line then Refused Later else first_turn s line
-turn_under judge s line (Some profile) =
-    if not (fits profile line) then Refused Form
-    else (if is_later line then Refused Later else form_turn judge s profile line)
+turn_under judge s line None = first_turn s line
+turn_under judge s line (Some profile) = if not (fits profile line) then Refused Form else form_turn judge s profile line
 
 unfoldable pub turn : Judge → State → Script → Turn
 turn judge s line = turn_under judge s line s.profile

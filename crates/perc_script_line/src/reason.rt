@@ -9,8 +9,6 @@ pub enum Reason {
     Long,
     /// It is outside the grammar, or a key of it hasn't the length of the head's profile.
     Form,
-    /// Its form isn't built.
-    Later,
     /// It means something and stands before the head, or is a second head, or is a join before the first `ekt`.
     Order,
     /// A name that isn't present (in a join: that was ever used), or an SSRC that was joined before, or a grant of an
@@ -32,7 +30,6 @@ impl Reason {
         match self {
             Reason::Long => b"long",
             Reason::Form => b"form",
-            Reason::Later => b"later",
             Reason::Order => b"order",
             Reason::Name => b"name",
             Reason::Datagram => b"datagram",

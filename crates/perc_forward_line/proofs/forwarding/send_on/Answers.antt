@@ -14,7 +14,7 @@ use Rattle.perc_forward_line.proofs.forwarding.send_on.Goals as goal
 pub returns-in-None : goal.returns-in-None
 returns-in-None c = λ s taken mirrors takings.
     seals_all c.args.conference.now (record c.args.conference.now { distributor = c.forward.new.self }) s taken (rewrite_of c.args.change.now) None (names_in c.args.to.now) mirrors
-    (record { profile = refl; records = refl; issued = refl; members = refl }) refl (sym (ap (λ (o : Option (Vec Name)). option_map (associations_of s) (names_in o)) c.in-None.is)) (c.forward.ensures s taken mirrors.distributor takings)
+    (record { profile = refl; records = refl; issued = refl; members = refl; keys = refl }) refl (sym (ap (λ (o : Option (Vec Name)). option_map (associations_of s) (names_in o)) c.in-None.is)) (c.forward.ensures s taken mirrors.distributor takings)
 
 pub returns-in_ok-only-in-Some : goal.returns-in_ok-only-in-Some
 returns-in_ok-only-in-Some c = λ s taken mirrors takings.
@@ -25,5 +25,5 @@ returns-in_ok-only-in-Some c = λ s taken mirrors takings.
     ∙ ap (λ (cs : List Member). map (λ (m : Member). m.association) (filter (λ (m : Member). m.present && is_named_in (Some names) m) cs)) c.deref.ensures.value
     ∙ associations_same c.args.conference.now.members.items s names mirrors.members in
     seals_all c.args.conference.now (record c.args.conference.now { distributor = c.forward-in-Some.new.self }) s taken (rewrite_of c.args.change.now) (Some c.as_slice.result.now) (names_in c.args.to.now) mirrors
-    (record { profile = refl; records = refl; issued = refl; members = refl }) refl
+    (record { profile = refl; records = refl; issued = refl; members = refl; keys = refl }) refl
     (ap (λ (xs : List (List ℕ)). Some xs) (c.as_slice.ensures.value ∙ only) ∙ sym (ap (λ (o : Option (Vec Name)). option_map (associations_of s) (names_in o)) c.in-Some.is)) (c.forward-in-Some.ensures s taken mirrors.distributor takings)

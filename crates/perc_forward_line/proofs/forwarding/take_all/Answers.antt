@@ -9,4 +9,4 @@ pub returns : goal.returns
 returns c = λ s mirrors there.
     let all = subst (λ (ds : List Datagram). MirrorEach MirrorsDatagram ds s.datagrams) (sym c.deref.ensures.value) mirrors.datagrams in
     on_ok_weaker c.take_each.result (λ h. takes_all_of c.args.conference.now (record c.args.conference.now { distributor = c.take_each.new.distributor }) s c.args.from.now c.args.numbers.now mirrors
-    (record { profile = refl; records = refl; issued = refl; members = refl }) refl h) (c.take_each.ensures s mirrors.distributor all there)
+    (record { profile = refl; records = refl; issued = refl; members = refl; keys = refl }) refl h) (c.take_each.ensures s mirrors.distributor all there)

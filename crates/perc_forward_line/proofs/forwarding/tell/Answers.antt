@@ -10,4 +10,4 @@ returns c = λ s taken sealed.
     let old = c.args.conference.now in
     let telling = is_telling _ old s taken sealed c.deref.ensures.value refl in
     tells_all s taken (rewrite_of c.args.change.now) old (record old { datagrams = c.takings.new.datagrams }) c.takings.result c.args.text.now.items c.takings.new.text.items sealed
-    (record { profile = refl; records = refl; issued = refl; members = refl }) refl (c.takings.ensures s.members taken (map sent_of old.distributor.outputs) s.datagrams telling)
+    (record { profile = refl; records = refl; issued = refl; members = refl; keys = refl }) refl (c.takings.ensures s.members taken (map sent_of old.distributor.outputs) s.datagrams telling)

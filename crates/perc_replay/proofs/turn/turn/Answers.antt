@@ -1,21 +1,13 @@
-use Rattle.std.proofs.Common.{cond, None, Some, Err, sym, ◌∙◌}
+use Rattle.std.proofs.Common.{None, Some, Err, sym, ◌∙◌}
 use Rattle.perc_conference_state.specs.declared.conference.Stop.TheVariants as stop
-use Rattle.perc_replay.proofs.Turning.{is_built, is_fit, is_unbuilt, is_unfit, says}
+use Rattle.perc_replay.proofs.Turning.{is_fit, is_unfit, says}
 use Rattle.perc_run.specs.Delivering.{by_cipher}
 use Rattle.perc_run.specs.State.{Refused}
-use Rattle.perc_run.specs.Turn.{first_turn, form_turn, is_later}
+use Rattle.perc_run.specs.Turn.{first_turn, form_turn}
 use Rattle.perc_script_line.specs.Script.{fits}
 use Rattle.perc_script_line.specs.View.{script_said}
-use Rattle.perc_script_line.specs.declared.reason.Reason.TheVariants.{Form, Later}
+use Rattle.perc_script_line.specs.declared.reason.Reason.TheVariants.{Form}
 use Rattle.perc_replay.proofs.turn.turn.Goals as goal
-
-pub returns-then-is_later : goal.returns-then-is_later
-returns-then-is_later c = λ s orderly mirrors.
-    let old = c.args.conference.now in
-    let text = c.args.text.now.items in
-    let said = script_said c.in-Some.said in
-    says old old s c.args.line.now said None (Err (stop.Refused Later)) text text c.in-Some.ensures c.in_default-profile.is mirrors
-    (is_unbuilt (first_turn s said) (is_later said) text text old (sym c.is_later.ensures ∙ c.if-is_later.true))
 
 pub returns-in_default-profile : goal.returns-in_default-profile
 returns-in_default-profile c = λ s orderly mirrors.
@@ -23,7 +15,7 @@ returns-in_default-profile c = λ s orderly mirrors.
     let text = c.args.text.now.items in
     let said = script_said c.in-Some.said in
     says c.args.conference.now new s c.args.line.now said None c.first_turn.result text text c.in-Some.ensures c.in_default-profile.is mirrors
-    (is_built (first_turn s said) (is_later said) c.first_turn.result text text new (sym c.is_later.ensures ∙ c.if-is_later.false) (c.first_turn.ensures s text orderly mirrors))
+    (c.first_turn.ensures s text orderly mirrors)
 
 pub returns-then-not-fits : goal.returns-then-not-fits
 returns-then-not-fits c = λ s orderly mirrors.
@@ -32,18 +24,7 @@ returns-then-not-fits c = λ s orderly mirrors.
     let said = script_said c.in-Some.said in
     let profile = c.in-Some-profile.profile in
     says old old s c.args.line.now said (Some profile) (Err (stop.Refused Form)) text text c.in-Some.ensures c.in-Some-profile.is mirrors
-    (is_unfit (cond (is_later said) (Refused Later) (form_turn by_cipher s profile said)) (fits profile said) text text old (sym c.fits.ensures ∙ c.if-not-fits.true))
-
-pub returns-then-is_later-2 : goal.returns-then-is_later-2
-returns-then-is_later-2 c = λ s orderly mirrors.
-    let old = c.args.conference.now in
-    let text = c.args.text.now.items in
-    let said = script_said c.in-Some.said in
-    let profile = c.in-Some-profile.profile in
-    let goes = form_turn by_cipher s profile said in
-    says old old s c.args.line.now said (Some profile) (Err (stop.Refused Later)) text text c.in-Some.ensures c.in-Some-profile.is mirrors
-    (is_fit (cond (is_later said) (Refused Later) goes) (fits profile said) (Err (stop.Refused Later)) text text old (sym c.fits.ensures ∙ c.if-not-fits.false)
-    (is_unbuilt goes (is_later said) text text old (sym c.is_later-2.ensures ∙ c.if-is_later-2.true)))
+    (is_unfit (form_turn by_cipher s profile said) (fits profile said) text text old (sym c.fits.ensures ∙ c.if-not-fits.true))
 
 pub form_turn-requires-clause-script : goal.form_turn-requires-clause-script
 form_turn-requires-clause-script c = ((c.one_spelling.ensures c.args.line.now (script_said c.in-Some.said)).0 (sym c.in-Some.ensures)).1
@@ -57,5 +38,4 @@ returns c = λ s orderly mirrors.
     let profile = c.in-Some-profile.profile in
     let goes = form_turn by_cipher s profile said in
     says c.args.conference.now new s c.args.line.now said (Some profile) c.form_turn.result before after c.in-Some.ensures c.in-Some-profile.is mirrors
-    (is_fit (cond (is_later said) (Refused Later) goes) (fits profile said) c.form_turn.result before after new (sym c.fits.ensures ∙ c.if-not-fits.false)
-    (is_built goes (is_later said) c.form_turn.result before after new (sym c.is_later-2.ensures ∙ c.if-is_later-2.false) (c.form_turn.ensures s orderly mirrors)))
+    (is_fit goes (fits profile said) c.form_turn.result before after new (sym c.fits.ensures ∙ c.if-not-fits.false) (c.form_turn.ensures s orderly mirrors))

@@ -106,7 +106,7 @@ returns c = λ s orderly mirrors.
           })
           (writes_by c.args.self.now c.match-take_ekt.self _ place b w.self-is
           (record { leaves = record { profile = refl; records = refl; issued = refl; datagrams = refl }; members = refl }))
-          (ap (λ (z : code.Conference). z.distributor) w.self-is)
+          (ap (λ (z : code.Conference). z.distributor) w.self-is) (ap (λ (z : code.Conference). z.keys) w.self-is)
           (c.in_ok-write.ensures.ok ∙ ap (λ (l : ReportLine). before ++ report_text (report_told l)) w.line-is))
       | in-Err w ↦ (
           let b : code_member.Member = record a { endpoint = c.take_ekt.new.self } in
@@ -116,6 +116,6 @@ returns c = λ s orderly mirrors.
           (subst (IsGranted (grant_answer p.member.endpoint secret octets)) w.in-Err.is answer) same
           (writes_by c.args.self.now c.match-take_ekt.self _ place b w.self-is
           (record { leaves = record { profile = refl; records = refl; issued = refl; datagrams = refl }; members = refl }))
-          (ap (λ (z : code.Conference). z.distributor) w.self-is)
+          (ap (λ (z : code.Conference). z.distributor) w.self-is) (ap (λ (z : code.Conference). z.keys) w.self-is)
           (c.in_ok-write.ensures.ok ∙ ap (λ (l : ReportLine). before ++ report_text (report_told l)) line))
     ])

@@ -46,6 +46,14 @@ let_in-requires-clause-newest c =
       key = All-contains (λ (r : EktKeyRecord). r.len ≡ key_length c.args.profile) records newest all.size there;
     }
 
+pub let_in-requires-clause-last : goal.let_in-requires-clause-last
+let_in-requires-clause-last c =
+    let records = c.args.self.now.records.items in
+    last_read c.deref.result.now records c.copied.result (Some c.in-Some.newest) c.deref.ensures.value (c.copied.ensures ∙ c.last.ensures.value) c.in-Some.is
+
+pub let_in-requires-clause-free : goal.let_in-requires-clause-free
+let_in-requires-clause-free c = λ s mirrors. sym (c.join_fault.ensures s mirrors) ∙ c.in_default-join_fault.is
+
 pub returns : goal.returns
 returns c = λ s orderly mirrors.
     let records = c.args.self.now.records.items in

@@ -80,7 +80,7 @@ returns c = λ s orderly mirrors.
           })
           (writes_by c.args.self.now c.match-rekey.self _ place b w.self-is
           (record { leaves = record { profile = refl; records = refl; issued = refl; datagrams = refl }; members = refl }))
-          (ap (λ (z : code.Conference). z.distributor) w.self-is)
+          (ap (λ (z : code.Conference). z.distributor) w.self-is) (ap (λ (z : code.Conference). z.keys) w.self-is)
           (c.in_ok-write.ensures.ok ∙ ap (λ (l : ReportLine). before ++ report_text (report_told l)) w.line-is))
       | in-Err w ↦ (
           let b : code_member.Member = record a { endpoint = c.rekey.new.self } in
@@ -89,6 +89,6 @@ returns c = λ s orderly mirrors.
           denies_rekey c.args.self.now c.match-rekey.self s c.args.name place a b octets before after w.in-Err.fault mirrors p (sym w.in-Err.is ∙ answer) same
           (writes_by c.args.self.now c.match-rekey.self _ place b w.self-is
           (record { leaves = record { profile = refl; records = refl; issued = refl; datagrams = refl }; members = refl }))
-          (ap (λ (z : code.Conference). z.distributor) w.self-is)
+          (ap (λ (z : code.Conference). z.distributor) w.self-is) (ap (λ (z : code.Conference). z.keys) w.self-is)
           (c.in_ok-write.ensures.ok ∙ ap (λ (l : ReportLine). before ++ report_text (report_told l)) line))
     ])

@@ -47,4 +47,4 @@ returns c = λ s orderly mirrors.
     let wire = ap (λ (octets : List ℕ). before ++ report_text (WireUp number c.args.name octets)) (c.of.ensures ∙ c.deref.ensures.value) in
     sends_on c.args.self.now _ s c.args.name place a c.send.new.self c.in_ok-datagram.datagram (content_of c.args.media.now) number before c.write.new.out.items orderly
     mirrors p room (c.next_number-number.ensures s mirrors) sends
-    (record { profile = refl; records = refl; issued = refl; distributor = refl; members = refl; datagrams = c.in_ok-push.ensures.items }) (c.in_ok-write.ensures.ok ∙ wire)
+    (record { profile = refl; records = refl; issued = refl; distributor = refl; keys = refl; members = refl; datagrams = c.in_ok-push.ensures.items }) (c.in_ok-write.ensures.ok ∙ wire)

@@ -20,6 +20,10 @@ name_of-name-requires c =
     subst (λ (o : Output). IsTrue (list_any (λ m. bytes_eq (to_of (sent_of o)) m.association) c.args.self.now.members.now)) c.in-Sealed.is
     (known_at c.args.self.now h.members h.taken h.sent c.args.output.now c.requires.there.0 h.is c.requires.there.1)
 
+pub unsealed-requires-clause-few : goal.unsealed-requires-clause-few
+unsealed-requires-clause-few c =
+    few_octets c.args.output.now c.in-Sealed.place c.in-Sealed.to c.in-Sealed.octets c.in-Sealed.len c.in-Sealed.is c.requires.whole
+
 pub unsealed-requires-clause-packet : goal.unsealed-requires-clause-packet
 unsealed-requires-clause-packet c =
     let h = c.requires.telling in

@@ -68,7 +68,10 @@ returns-clause-unsealed c = λ m content o.
     let slice = c.unseal_at.new.packet in
     let size : length slice ≡ c.in_ok-packet.packet.len = omega arith in
     let back = take_at slice (drop (length slice) c.in_ok-packet.packet.items) c.in_ok-packet.packet.len size in
+    let whole = length-take (length c.args.datagram.now - c.unwrap-field.result.1) c.args.datagram.now in
+    let kept = length-take c.unwrap-len.result c.in_ok-packet.packet.items in
     record {
+      few = omega (arith, ap length c.truncate.ensures.items, kept, size, ap length (c.deref_mut.ensures.value ∙ c.in_ok-packet.ensures.items), whole, c.requires.few);
       packet = opened_packet h inner c.truncate.new.self.items c.unseal_at.new.packet c.unseal_at.result c.unwrap-len.result o.header opens c.unwrap-len.ensures (c.truncate.ensures.items ∙ ap (take c.unwrap-len.result) back);
       field = field_stands m content c.args.datagram.now _ read;
       within = field_within m content c.args.datagram.now _ read;

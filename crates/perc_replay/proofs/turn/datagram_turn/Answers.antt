@@ -2,7 +2,7 @@ use Rattle.std.proofs.Common.{ap, subst}
 use Rattle.perc_headline.proofs.Sends.{said_media}
 use Rattle.perc_script_line.specs.Script.{IsScript}
 use Rattle.perc_script_line.specs.View.{options_said, script_said}
-use Rattle.perc_replay.proofs.turn.media_turn.Goals as goal
+use Rattle.perc_replay.proofs.turn.datagram_turn.Goals as goal
 
 pub send_said-requires-clause-media : goal.send_said-requires-clause-media
 send_said-requires-clause-media c =

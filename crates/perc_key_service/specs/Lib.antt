@@ -1,0 +1,5 @@
+pub mod Hearing
+pub mod Keeper
+pub mod Replies
+pub mod Service
+pub mod Serving
