@@ -7,7 +7,5 @@ mod hearing;
 mod keeper;
 mod replies;
 mod service;
-#[cfg(test)]
-mod tests;
 
 pub use service::{Joined, KeyService};
