@@ -34,12 +34,10 @@ fn drawn(
 
 // Whether the part stands in the text.
 fn holds(text: &[u8], part: &[u8]) -> bool {
-    let mut rest = text;
-    while let [_, others @ ..] = rest {
-        if rest.starts_with(part) {
+    for start in 0..text.len() {
+        if text[start..].starts_with(part) {
             return true;
         }
-        rest = others;
     }
     false
 }
