@@ -3,8 +3,6 @@
 
 mod made;
 #[cfg(test)]
-mod hostile_tests;
-#[cfg(test)]
 mod tests;
 mod top;
 mod write;

@@ -6,7 +6,7 @@ use std::alloc::{AllocError, Global};
 use std::process::Abort;
 use std::test::Fail;
 
-pub(crate) const OPENING: &str =
+const OPENING: &str =
     "conference 0009\nekt 01010101010101010101010101010101 020202020202020202020202\njoin Ann 11111111 1000 c1c1c1c1c1c1c1c1c1c1c1c1c1c1c1c1c1c1c1c1c1c1c1c1c1c1c1c1 c2c2c2c2c2c2c2c2c2c2c2c2c2c2c2c2c2c2c2c2c2c2c2c2c2c2c2c2 d1d1d1d1d1d1d1d1d1d1d1d1d1d1d1d1\njoin Bob 22222222 2000 c3c3c3c3c3c3c3c3c3c3c3c3c3c3c3c3c3c3c3c3c3c3c3c3c3c3c3c3 c4c4c4c4c4c4c4c4c4c4c4c4c4c4c4c4c4c4c4c4c4c4c4c4c4c4c4c4 d2d2d2d2d2d2d2d2d2d2d2d2d2d2d2d2\n";
 
 const OPENED: &str =
@@ -14,15 +14,15 @@ const OPENED: &str =
 
 // What came of a run.
 #[derive(Drop)]
-pub(crate) struct Outcome {
-    pub status: Status,
-    pub out: Vec<u8>,
-    pub err: Vec<u8>,
+struct Outcome {
+    status: Status,
+    out: Vec<u8>,
+    err: Vec<u8>,
 }
 
 // Runs `replay` on a script that comes in pieces of that many octets, where these calls of the input, the output and the
 // error sink fail.
-pub(crate) fn replayed(
+fn replayed(
     alloc: Global,
     script: &[u8],
     piece: usize,
@@ -41,7 +41,7 @@ pub(crate) fn replayed(
     })
 }
 
-pub(crate) fn joined(alloc: Global, pieces: &[&str]) -> Result<Vec<u8>, AllocError> {
+fn joined(alloc: Global, pieces: &[&str]) -> Result<Vec<u8>, AllocError> {
     let mut all = Vec::new(alloc);
     for piece in pieces {
         all.extend_from_slice(piece.as_bytes())?;
