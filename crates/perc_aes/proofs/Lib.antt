@@ -1,7 +1,8 @@
 pub mod CipherLaws
 mod Blocks
+pub mod Linear
 mod Mixing
-mod Octets
+pub mod Octets
 mod Rounds
 mod SBox
 mod StateLaws

@@ -1,24 +1,15 @@
 -- Sums and products of octets, and the two matrices, of which each undoes the other.
-use Rattle.std.proofs.Common.{Bool, true, false, ◌≡◌, ℕ, zero, suc, ◌+◌, ◌-◌, ◌*◌, ◌/◌, ◌%◌, ◌^◌, ◌<◌, ◌≤◌, if◌then◌else◌, nat_eq, List, [], ◌∷◌, map, slice_index, slice_index_or, bit_xor, ⊎_elim, refl, sym, ◌∙◌, ap, arith}
-use Rattle.std.specs.Int.Bits.{xor_self, xor_zero_l, xor_zero_r, xor_assoc}
+use Rattle.std.proofs.Common.{Bool, true, false, ◌≡◌, ℕ, zero, suc, ◌+◌, ◌*◌, ◌/◌, ◌%◌, ◌^◌, ◌<◌, if◌then◌else◌, nat_eq, List, [], ◌∷◌, map, slice_index, slice_index_or, bit_xor, refl, sym, ◌∙◌, ap, arith}
+use Rattle.std.specs.Int.Bits.{xor_self, xor_zero_l, xor_zero_r}
 use Rattle.std.specs.List.{range_with_len}
-use Rattle.std.proofs.lemmas.Nat.{xor_comm, xor_lt, xor_shr, xor_mod, xor_block, pow_pos}
-use Rattle.std.proofs.lemmas.Bool.{cases_lt}
-use Rattle.std.proofs.Math.Nat.{pow-suc}
+use Rattle.std.proofs.lemmas.Nat.{xor_lt, xor_shr, xor_mod}
 use Rattle.perc_aes.specs.Field.{add, total, times_x, product, product_below}
 use Rattle.perc_aes.specs.Cipher.{mix_matrix}
 use Rattle.perc_aes.specs.Inverse.{unmix_matrix}
+use Rattle.perc_aes.proofs.Linear.{add_add, agree}
 use Rattle.perc_aes.proofs.Octets.{same_along, below_256}
 
 -- ---- sums
-
-pub add_swap : (a b c : ℕ) → add a (add b c) ≡ add b (add a c)
-add_swap a b c = sym (xor_assoc a b c) ∙ ap (λ (x : ℕ). add x c) (xor_comm a b) ∙ xor_assoc b a c
-
--- two sums of two, taken the other way round
-add_add : (a b c d : ℕ) → add (add a b) (add c d) ≡ add (add a c) (add b d)
-add_add a b c d =
-    xor_assoc a b (add c d) ∙ ap (λ (x : ℕ). add a x) (add_swap b c d) ∙ sym (xor_assoc a c (add b d))
 
 total_zero : (ks : List ℕ) → total (map (λ k. 0) ks) ≡ 0
 total_zero [] = refl
@@ -91,41 +82,6 @@ product_below_in_range (suc n) a b in_range =
 pub product_in_range : (a b : ℕ) → a < 256 → product a b < 256
 unfolding product
 product_in_range a b in_range = product_below_in_range 8 a b in_range
-
--- ---- linear functions
-
--- f takes sums to sums
-record Linear (f : ℕ → ℕ) : Type 0 where
-  sums : (a b : ℕ) → f (add a b) ≡ add (f a) (f b)
-
-linear_zero : (f : ℕ → ℕ) → Linear f → f 0 ≡ 0
-linear_zero f is = is.sums 0 0 ∙ xor_self (f 0)
-
--- a number that has bit n, and none above, without it
-split_top : (n a : ℕ) → 2 ^ n ≤ a → a < 2 ^ suc n → (r : ℕ) × ((r < 2 ^ n) × (a ≡ add (2 ^ n) r))
-split_top n a has below =
-    let twice : 2 ^ suc n ≡ 2 ^ n * 2 = pow-suc 2 n in
-    let top : 1 * 2 ^ n + 0 ≡ 2 ^ n = omega arith in
-    let low : 0 * 2 ^ n + (a - 2 ^ n) ≡ a - 2 ^ n = omega arith in
-    let joined : add (2 ^ n) (a - 2 ^ n) ≡ 1 * 2 ^ n + (a - 2 ^ n) =
-    ap (λ (x : ℕ). add x (a - 2 ^ n)) (sym top) ∙ ap (λ (x : ℕ). add (1 * 2 ^ n + 0) x) (sym low)
-    ∙ xor_block n 1 0 0 (a - 2 ^ n) (pow_pos n) (omega arith) ∙ ap (λ (x : ℕ). 1 * 2 ^ n + x) (xor_zero_l (a - 2 ^ n)) in
-    (a - 2 ^ n, (omega arith, omega arith))
-
--- Two linear functions that agree at each power of two below 2^n agree at each number below 2^n.
-agree : (n : ℕ) (f g : ℕ → ℕ) → Linear f → Linear g → ((k : ℕ) → k < n → f (2 ^ k) ≡ g (2 ^ k)) → (a : ℕ) → a < 2 ^ n → f a ≡ g a
-agree zero f g is_f is_g same a below =
-    let e : a ≡ 0 = omega arith in
-    ap f e ∙ linear_zero f is_f ∙ sym (linear_zero g is_g) ∙ sym (ap g e)
-agree (suc n) f g is_f is_g same a below =
-    ⊎_elim (λ (low : a < 2 ^ n). agree n f g is_f is_g (λ k h. same k (omega arith)) a low)
-    (λ (high : 2 ^ n ≤ a).
-    let s = split_top n a high below in
-    ap f s.1.1 ∙ is_f.sums (2 ^ n) s.0
-    ∙ ap (λ (x : ℕ). add x (f s.0)) (same n (omega arith))
-    ∙ ap (λ (x : ℕ). add (g (2 ^ n)) x) (agree n f g is_f is_g (λ k h. same k (omega arith)) s.0 s.1.0)
-    ∙ sym (is_g.sums (2 ^ n) s.0) ∙ sym (ap g s.1.1))
-    (cases_lt a (2 ^ n))
 
 -- ---- matrices
 

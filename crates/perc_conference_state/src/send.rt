@@ -13,13 +13,10 @@ ghost use Rattle.perc_conference_state.specs.Steps.{content_said};
 use crate::conference::{Conference, MOST_DATAGRAMS, Stop, Told};
 use perc_forwarder::{csrcs_in, extension_in};
 use perc_report_line::ReportLine;
-use perc_rtp::Media;
+use perc_rtp::{LONGEST_PAYLOAD, Media};
 use perc_script_line::{Options, Reason};
 use perc_word::{Name, Octets};
 use std::alloc::Global;
-
-// How many octets a payload has at most.
-const LONGEST_PAYLOAD: usize = 1200;
 
 /// What the first words of a send say.
 #[derive(Clone, Copy)]

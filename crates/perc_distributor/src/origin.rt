@@ -17,15 +17,13 @@ use crate::slot::is_in;
 use crate::streams::put_behind;
 use crate::{InboundFault, Plain};
 use perc_base::Memory;
+use perc_gcm::TAG_LEN;
 use perc_kdf::{Kind, Master};
 use perc_keyset::{Entry, KeySet};
 use perc_outer::{OuterFault, OuterStreams, reach};
 use perc_srtp::{Keys, RtcpFault, RtcpRx};
 use std::alloc::Global;
 use std::marker::Model;
-
-// How many octets a tag has.
-const TAG_LEN: usize = 16;
 
 /// What is kept of what came from one serial: its outer streams and the window of its RTCP packets. Or a place that is free.
 #[derive(Drop)]

@@ -16,6 +16,7 @@ use perc_outer::OuterFault;
 use perc_rtp::{RtpFault, RtpHead};
 use perc_srtp::{Keys, RtcpFault, seal_at};
 use std::alloc::Global;
+use std::process::Abort;
 
 const KEPT: Change<'static> = Change {
     pt: None,
@@ -386,28 +387,18 @@ fn site_of(alloc: Global, count: u8) -> Result<Site, Memory> {
     })
 }
 
-// The octets that a text in hexadecimal digits spells, and zeros behind them.
-fn spelled(digits: &str) -> [u8; 1500] {
-    let mut octets = [0; 1500];
-    let _ = hex::decode_to_slice(digits, &mut octets[..size(digits)]);
-    octets
+// The octets that a text in hexadecimal digits spells.
+fn octets(rt: &impl Abort, alloc: Global, digits: &str) -> Vec<u8> {
+    hex::decode(alloc, digits).expect(rt, "the text is hexadecimal")
 }
 
-// How many octets it spells, at most 1500.
-fn size(digits: &str) -> usize
-    ensures { result ≤ 1500 }
-{
-    (digits.len() / 2).min(1500)
-}
-
-// What a datagram of a member is opened to.
+// What the first 1500 octets of a datagram of a member are opened to.
 fn opened(
     inbound: &mut Inbound,
     set: &KeySet,
     from: u8,
     datagram: &[u8],
 ) -> Result<Plain, InboundFault>
-    requires { length datagram.now ≤ 1500 }
     ensures { IfOk result (λ plain. (packet : Packet) × IsPlain plain packet) }
 {
     let mut plain = Plain {
@@ -417,6 +408,7 @@ fn opened(
         len: 0,
         field: 0,
     };
+    let datagram = &datagram[..datagram.len().min(1500)];
     match inbound.take(set, &association(from), datagram, &mut plain) {
         Ok(()) => Ok(plain),
         Err(fault) => Err(fault),
@@ -487,9 +479,16 @@ fn is_sent(output: &Output, want: &Sent) -> bool
 
 fn is_octets(octets: &[u8], want: Result<&'static str, ForwardFault>) -> bool {
     match want {
-        Ok(digits) => octets == &spelled(digits)[..size(digits)],
+        Ok(digits) => is_spelled(octets, digits),
         Err(_) => false,
     }
+}
+
+// Whether octets are what a text in hexadecimal digits spells, which are at most 1500.
+fn is_spelled(octets: &[u8], digits: &str) -> bool {
+    let mut spelled = [0; 1500];
+    let spelled = &mut spelled[..octets.len().min(1500)];
+    hex::decode_to_slice(digits, spelled).is_ok() && octets == spelled
 }
 
 fn are_sent(outputs: &Outputs, want: &[Sent]) -> bool {
@@ -505,11 +504,10 @@ fn are_sent(outputs: &Outputs, want: &[Sent]) -> bool {
 }
 
 // Whether a row's datagram has its answer.
-fn is_answered_so(site: &mut Site, row: &Row) -> bool {
+fn is_answered_so(rt: &impl Abort, alloc: Global, site: &mut Site, row: &Row) -> bool {
     let (from, digits, named, want) = row;
-    let octets = spelled(digits);
-    let datagram = &octets[..size(digits)];
-    match (opened(&mut site.inbound, &site.set, *from, datagram), want) {
+    let datagram = octets(rt, alloc, digits);
+    match (opened(&mut site.inbound, &site.set, *from, &datagram), want) {
         (Ok(plain), Ok((change, sent))) => {
             forward(
                 &mut site.worker,
@@ -537,7 +535,10 @@ fn answers(rt: HostRuntime) -> Result<(), Memory> {
     for (table, (count, rows)) in tables.iter().enumerate() {
         let mut site = site_of(rt.alloc(), *count)?;
         for (i, row) in rows.iter().enumerate() {
-            assert!(rt; is_answered_so(&mut site, row), "row {i} of table {table}");
+            assert!(rt;
+                is_answered_so(&rt, rt.alloc(), &mut site, row),
+                "row {i} of table {table}"
+            );
         }
     }
     Ok(())
@@ -615,8 +616,8 @@ fn many_workers(rt: HostRuntime) -> Result<(), Memory> {
     let mut inbound = Inbound::new(alloc)?;
     let mut worker = Worker::new(alloc, 0, 1)?;
     let mut alone = Outputs::new(alloc)?;
-    let octets = spelled(FIRST);
-    let Ok(plain) = opened(&mut inbound, &set, ANN, &octets[..size(FIRST)]) else {
+    let first = octets(&rt, alloc, FIRST);
+    let Ok(plain) = opened(&mut inbound, &set, ANN, &first) else {
         panic!(&rt; "the first packet opens");
     };
     assert!(rt; forward(&mut worker, &set, &plain, &KEPT, 0, &mut alone));

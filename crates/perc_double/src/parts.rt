@@ -1,15 +1,14 @@
 // The parts of double packets.
 ghost use Rattle.std.specs.Prelude.{◌≡◌, ℕ, ◌+◌, ◌*◌, ◌/◌, ◌%◌, ◌<◌, ◌≤◌, List, [], ◌++◌, length, take, drop, Some, IfSome, MatchOption};
 ghost use Rattle.std.specs.Option.{unwrap_or};
-ghost use Rattle.perc_rtp.specs.Header.{Header, IsExtension, IsPacket, extension_octets, spelling};
+ghost use Rattle.perc_rtp.specs.Header.{Header, IsPacket, spelling};
 ghost use Rattle.perc_rtp.specs.Fields.{IsRtp, cut, with_extension};
 ghost use Rattle.perc_ohb.specs.Block as block;
 ghost use Rattle.perc_ohb.specs.Rewriting.{IsExtensionSet, extension_set};
 
-use byteorder::{BigEndian, ByteOrder};
 use perc_gcm::TAG_LEN;
 use perc_ohb::{ExtChange, Ohb};
-use perc_rtp::{RtpHead, cut_header};
+use perc_rtp::{RtpHead, cut_header, write_words};
 
 // ---- the end of a packet
 
@@ -116,7 +115,7 @@ fn set_extension(packet: &[u8], profile: u16, words: &[u8], out: &mut [u8; 1500]
 {
     let cut = drop_extension(packet, out);
     out[0] = with_extension_bit(out[0]);
-    write_extension(profile, words, &mut out[cut..]);
+    write_words(profile, words, &mut out[cut..]);
     cut + 4 + words.len()
 }
 
@@ -125,18 +124,4 @@ fn with_extension_bit(octet: u8) -> u8
     ensures { result ≡ 32 * (octet / 32) + 16 + octet % 16 }
 {
     octet | 0x10
-}
-
-// Writes a profile, the count of words and the words to the front of `out`.
-fn write_extension(profile: u16, words: &[u8], out: &mut [u8])
-    requires whole { length words.now % 4 ≡ 0 }
-    requires short { length words.now ≤ 120 }
-    requires room { 124 ≤ length out.old }
-    ensures fits { IsExtension (profile, words.now) }
-    ensures written { out.new ≡ extension_octets (Some (profile, words.now)) ++ drop (4 + length words.now) out.old }
-{
-    let end = 4 + words.len();
-    BigEndian::write_u16(out, profile);
-    BigEndian::write_u16(&mut out[2..], (words.len() / 4) as u16);
-    out[4..end].copy_from_slice(words);
 }

@@ -1,5 +1,5 @@
 // Packets relayed by a distributor.
-ghost use Rattle.std.specs.Prelude.{◌≡◌, ℕ, ◌+◌, ◌<◌, ◌≤◌, List, [], ◌∷◌, ◌++◌, length, take, drop, Ok, Err, IfOk, OnErr, IfSome, MatchOption, MatchResult};
+ghost use Rattle.std.specs.Prelude.{◌≡◌, ℕ, ◌+◌, ◌<◌, ◌≤◌, List, [], ◌∷◌, ◌++◌, length, take, drop, Ok, Err, OnOk, OnErr, IfSome, MatchOption, MatchResult};
 ghost use Rattle.perc_rtp.specs.Header.{Header, IsHeader, IsPacket};
 ghost use Rattle.perc_window.specs.Replay.{StandsFor};
 ghost use Rattle.perc_ohb.specs.Rewriting.{IsRewrite, block_after, restored, rewrite_of};
@@ -46,7 +46,7 @@ pub fn relay(
     // No index is sealed twice.
     ensures next { (before : List ℕ) (h : Header) (octets : List ℕ) (o : Ohb)
         → StandsFor tx.old.window before → IsOpened h octets o (take len packet.old)
-        → IfOk result (λ _. (at : ℕ) × IsNext before (relayed h (rewrite_of change.now)).seq at) }
+        → OnOk result ((at : ℕ) × IsNext before (relayed h (rewrite_of change.now)).seq at) }
     // The relayed packet reads.
     ensures reads { (h : Header) (octets : List ℕ) (o : Ohb) → IsOpened h octets o (take len packet.old) → IsHeader (relayed h (rewrite_of change.now)) }
     // What is restored of the relayed packet is what was restored of the packet.

@@ -10,7 +10,7 @@ use Rattle.std.proofs.lemmas.Slice.Eq.{bytes_eq-Decides}
 use Rattle.perc_aes.specs.Cipher.{IsBlock, IsKey, aes}
 use Rattle.perc_aes.proofs.CipherLaws.{IsBlock-aes, aes_injective}
 use Rattle.perc_gcm.specs.Field.{ghash}
-use Rattle.perc_gcm.specs.Gcm.{Verifies, cipher_part, ciphertext, counter_block, element, hash_key, hashed, inc32, key_stream, sealed_text, tag, tag_part, unsealed_text, verifies}
+use Rattle.perc_gcm.specs.Gcm.{Verifies, cipher_part, ciphertext, counter_block, element, hash_subkey, hashed, inc32, key_stream, sealed_text, tag, tag_part, unsealed_text, verifies}
 use Rattle.perc_gcm.proofs.Blocks.{below_append, element_is_element}
 use Rattle.perc_gcm.proofs.Numbers.{bytes_below, element_fits, number_of_octets, take_below}
 pub use Rattle.perc_gcm.proofs.Numbers.{element_injective}
@@ -101,10 +101,10 @@ zeros_at zero k = omega arith
 zeros_at (suc n) zero = omega arith
 zeros_at (suc n) (suc k) = zeros_at n k
 
--- The hash key is an element.
-pub hash_key_fits : (key : List ℕ) → IsKey key → hash_key key < 2 ^ 128
-unfolding hash_key
-hash_key_fits key is =
+-- The hash subkey is an element.
+pub hash_subkey_fits : (key : List ℕ) → IsKey key → hash_subkey key < 2 ^ 128
+unfolding hash_subkey
+hash_subkey_fits key is =
     element_fits (aes key (replicate 16 0)) (IsBlock-aes key (replicate 16 0) is (record { size = refl; octets = zeros_at 16 }))
 
 -- A tag has 16 octets.
@@ -257,7 +257,7 @@ iv_is_one key iv other aad cipher is size_iv size_other octets_iv octets_other s
     let first_other = IsBlock-counter_block other 0 size_other octets_other in
     let mask_iv = IsBlock-aes key (counter_block iv 0) is first_iv in
     let mask_other = IsBlock-aes key (counter_block other 0) is first_other in
-    let masks = masks_same (ghash (hash_key key) (hashed aad cipher)) (element (aes key (counter_block iv 0))) (element (aes key (counter_block other 0))) same
+    let masks = masks_same (ghash (hash_subkey key) (hashed aad cipher)) (element (aes key (counter_block iv 0))) (element (aes key (counter_block other 0))) same
     (element_is_element (aes key (counter_block iv 0)) mask_iv.octets) (element_is_element (aes key (counter_block other 0)) mask_other.octets) in
     let blocks = aes_injective key (counter_block iv 0) (counter_block other 0) is first_iv first_other
     (element_injective (aes key (counter_block iv 0)) (aes key (counter_block other 0)) mask_iv mask_other masks) in

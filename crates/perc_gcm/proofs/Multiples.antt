@@ -7,7 +7,9 @@ use Rattle.std.proofs.lemmas.Nat.{and_mask, div-add-mod', mod_below, mod-pow-add
 use Rattle.perc_gcm.specs.Field.{add, times_x, shifted, product}
 use Rattle.perc_gcm.specs.Table.{multiples, polynomial}
 use Rattle.perc_gcm.specs.declared.field.TheConstants.{CARRIED_NIBBLES, CARRIED_OCTETS}
-use Rattle.perc_gcm.proofs.FieldLaws.{add_add, Linear-left, Linear-shifted, linear_zero, product_comm, product_pow, product_shifted, same_along, shifted_left}
+use Rattle.perc_aes.proofs.Linear.{add_add, linear_zero}
+use Rattle.perc_aes.proofs.Octets.{same_along}
+use Rattle.perc_gcm.proofs.FieldLaws.{Linear-left, Linear-shifted, product_comm, product_pow, product_shifted, shifted_left}
 
 -- ---- an element times x to a power
 

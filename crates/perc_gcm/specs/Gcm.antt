@@ -31,7 +31,7 @@ hashed aad cipher = blocks aad ++ blocks cipher ++ lengths aad cipher ∷ []
 
 -- ---- the counter
 
--- the block before the counter blocks, J0: the IV and the number 1
+-- the pre-counter block J0: the IV and the number 1
 abbrev pub first_block : List ℕ → List ℕ
 first_block iv = iv ++ 0 ∷ 0 ∷ 0 ∷ 1 ∷ []
 
@@ -39,7 +39,7 @@ first_block iv = iv ++ 0 ∷ 0 ∷ 0 ∷ 1 ∷ []
 unfoldable pub inc32 : List ℕ → List ℕ
 inc32 block = take 12 block ++ to_be_bytes w32 ((from_be_bytes w32 (drop 12 block) + 1) % 2 ^ 32)
 
--- counter block k. The key stream begins with counter block 1.
+-- J0 with k added by inc32. GCTR makes the key stream of the text from 1 on, and 0 masks the tag.
 unfoldable pub counter_block : List ℕ → ℕ → List ℕ
 counter_block iv zero = first_block iv
 counter_block iv (suc k) = inc32 (counter_block iv k)
@@ -50,19 +50,19 @@ key_stream key iv j = slice_index (aes key (counter_block iv (j / 16 + 1))) (j %
 
 -- ---- the mode
 
--- the cipher text: each octet of the text and the octet of the key stream in its place
+-- the cipher text, by GCTR from counter block 1 on (section 6.5): each octet of the text and the octet of the key stream in its place
 unfoldable pub ciphertext : List ℕ → List ℕ → List ℕ → List ℕ
 ciphertext key iv text =
     map (λ j. bit_xor (slice_index text j) (key_stream key iv j)) (range_with_len 0 (length text))
 
--- the hash key H: the cipher of the zero block
-unfoldable pub hash_key : List ℕ → ℕ
-hash_key key = element (aes key (replicate 16 0))
+-- the hash subkey H: the cipher of the zero block (section 7.1)
+unfoldable pub hash_subkey : List ℕ → ℕ
+hash_subkey key = element (aes key (replicate 16 0))
 
 -- the tag
 unfoldable pub tag : List ℕ → List ℕ → List ℕ → List ℕ → List ℕ
 tag key iv aad cipher =
-    to_be_bytes w128 (add (ghash (hash_key key) (hashed aad cipher)) (element (aes key (counter_block iv 0))))
+    to_be_bytes w128 (add (ghash (hash_subkey key) (hashed aad cipher)) (element (aes key (counter_block iv 0))))
 
 -- The tag is right for the additional data and the cipher text.
 unfoldable pub Verifies : List ℕ → List ℕ → List ℕ → List ℕ → List ℕ → Type 0

@@ -1,7 +1,7 @@
 // GHASH (SP 800-38D section 6.4) over lists of octets, and what it is keyed by.
 ghost use Rattle.std.specs.Prelude.{◌≡◌, ℕ, ◌<◌, ◌≤◌, length};
 ghost use Rattle.perc_aes.specs.Cipher.{IsKey};
-ghost use Rattle.perc_gcm.specs.Gcm.{blocks, element, hash_key};
+ghost use Rattle.perc_gcm.specs.Gcm.{blocks, element, hash_subkey};
 ghost use Rattle.perc_gcm.specs.Running.{running};
 
 use crate::table::{HTable, PairTable};
@@ -46,9 +46,9 @@ fn hash_singly(table: &HTable, hash: u128, octets: &[u8]) -> u128
     table.product(hash ^ element(rest))
 }
 
-// The tables of the hash key, the cipher of the zero block.
+// The tables of the hash subkey, the cipher of the zero block.
 pub(crate) fn hash_tables(key: &AesKey) -> PairTable
-    ensures value { result.once.whole.h ≡ hash_key key.now }
+    ensures value { result.once.whole.h ≡ hash_subkey key.now }
     ensures key { IsKey key.now }
 {
     let mut block = [0; 16];

@@ -1,7 +1,7 @@
 //! Galois/Counter Mode with AES (NIST SP 800-38D), for an IV of 96 bits and a tag of 128.
 #![tactic(auto)]
 
-ghost use Rattle.std.specs.Prelude.{◌≡◌, ◌≤◌, ◌↔◌, ◌++◌, None, Some, length, IfOk, IfErr, IsOk, IsTrue, MatchResult};
+ghost use Rattle.std.specs.Prelude.{◌≡◌, ◌≤◌, ◌↔◌, ◌++◌, None, Some, length, OnOk, OnErr, IsOk, IsTrue, MatchResult};
 ghost use Rattle.perc_aes.specs.Cipher.{IsKey};
 ghost use Rattle.perc_gcm.specs.Gcm.{Verifies, ciphertext, sealed_text, tag, unsealed_text};
 
@@ -55,9 +55,9 @@ pub fn unseal(
     requires aad_length { length aad.now ≤ 65536 }
     requires text_length { length text.old ≤ 65536 }
     ensures verdict { IsOk result ↔ Verifies key.now iv.now aad.now text.old tag.now }
-    ensures opened { IfOk result (λ _. ciphertext key.now iv.now text.new ≡ text.old) }
-    ensures text { IfOk result (λ _. text.new ≡ ciphertext key.now iv.now text.old) }
-    ensures refused { IfErr result (λ _. text.new ≡ text.old) }
+    ensures opened { OnOk result (ciphertext key.now iv.now text.new ≡ text.old) }
+    ensures text { OnOk result (text.new ≡ ciphertext key.now iv.now text.old) }
+    ensures refused { OnErr result (text.new ≡ text.old) }
     ensures answer { MatchResult result (λ _. unsealed_text key.now iv.now aad.now (text.old ++ tag.now) ≡ Some text.new) (λ _. unsealed_text key.now iv.now aad.now (text.old ++ tag.now) ≡ None) }
     ensures key { IsKey key.now }
 {

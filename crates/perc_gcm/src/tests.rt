@@ -347,7 +347,7 @@ fn plain_product(a: u128, b: u128) -> u128 {
 }
 
 // What becomes of a hash over octets, the last block filled up with zero octets.
-fn plain_hash(hash_key: u128, hash: u128, octets: &[u8]) -> u128 {
+fn plain_hash(hash_subkey: u128, hash: u128, octets: &[u8]) -> u128 {
     let mut hash = hash;
     for i in 0..octets.len().div_ceil(16) {
         let mut block = [0; 16];
@@ -356,7 +356,7 @@ fn plain_hash(hash_key: u128, hash: u128, octets: &[u8]) -> u128 {
                 block[j] = octets[16 * i + j];
             }
         }
-        hash = plain_product(hash ^ u128::from_be_bytes(block), hash_key);
+        hash = plain_product(hash ^ u128::from_be_bytes(block), hash_subkey);
     }
     hash
 }
@@ -383,11 +383,11 @@ fn plain_seal(key: &AesKey, iv: &[u8; 12], aad: &[u8], text: &mut [u8]) -> [u8; 
     }
     let mut zeros = [0; 16];
     key.encrypt_block(&mut zeros);
-    let hash_key = u128::from_be_bytes(zeros);
-    let aad_hash = plain_hash(hash_key, 0, aad);
-    let text_hash = plain_hash(hash_key, aad_hash, text);
+    let hash_subkey = u128::from_be_bytes(zeros);
+    let aad_hash = plain_hash(hash_subkey, 0, aad);
+    let text_hash = plain_hash(hash_subkey, aad_hash, text);
     let lengths = (8 * aad.len() as u128) << 64 | 8 * text.len() as u128;
-    let hash = plain_product(text_hash ^ lengths, hash_key);
+    let hash = plain_product(text_hash ^ lengths, hash_subkey);
     (hash ^ u128::from_be_bytes(plain_mask(key, iv, 1))).to_be_bytes()
 }
 

@@ -9,7 +9,7 @@ use Rattle.byteorder.specs.Endian.{big_bytes}
 use Rattle.perc_base.specs.declared.profile.Profile.TheVariants.{Aes128}
 use Rattle.perc_base.specs.Lines.{lines_of, longest, onto_first}
 use Rattle.perc_rtp.specs.Media.{is_payload_type}
-use Rattle.perc_word.specs.Word.{AreItems, AreOctets, Also, IsName, are_octets, marker_text, payload_text, ssrc_text}
+use Rattle.perc_word.specs.Word.{AreItems, AreSomeOctets, Also, IsName, are_octets, marker_text, payload_text, ssrc_text}
 use Rattle.perc_script_line.specs.Script.{Changes, Conference, Deliver, Ekt, Forward, IsScript, Join, Rekey, Script, Send, Spells, changes_words, script_of, script_text, script_words}
 use Rattle.perc_generator.specs.Generator.{Roles, changes_of, forward_of, join_of, line_text, lines_text, made_lines, made_script, no_options, opening, rekey_of, repeat_of, roles_of, round_lines, send_of}
 use Rattle.perc_generated.proofs.Short.{IsShort, count_repeated, is_ink, octets_of_number, octets_repeated, short_append, short_decimal, short_hex, short_joined, shorter}

@@ -48,14 +48,15 @@ use Rattle.perc_outer.specs.Datagram as outer
 use Rattle.perc_outer.specs.Datagram.{Opened, Reach, Reached, reached}
 use Rattle.perc_outer.specs.Streams.{OuterStream}
 use Rattle.perc_outer.proofs.Outer.{is_reached}
-use Rattle.perc_receiver.specs.Table.{AreOctets, IsSecret, Secret, inner_keys}
+use Rattle.perc_aes.specs.Octets.{AreOctets}
+use Rattle.perc_receiver.specs.Table.{IsSecret, Secret, inner_keys}
 use Rattle.perc_sender.specs.Schedule.{roll_over}
 use Rattle.perc_outgoing.specs.Sending.{IsSending, Outgoing, next_place, outer_index, sending_key, sent_datagram, sent_field, sent_header, sent_inner}
 use Rattle.perc_distributor.specs.declared.fault.ForwardFault.{ForwardFault}
 use Rattle.perc_distributor.specs.declared.fault.InboundFault.{InboundFault}
 use Rattle.perc_distributor.specs.Inbound.{Control, Heard, Media, Packet, heard_of, in_set, taken, taken_control, taken_of, taken_reach}
 use Rattle.perc_distributor.specs.Forwarding.{Dropped, Sealed, Sealing, Sent, is_named, is_owned, media_place, media_step, recipients, sealing_of, sent_each, sent_from, sent_media, sent_to, source_of, with_sealing}
-use Rattle.perc_word.specs.Word.{Also, AreOctets as AreSomeOctets, IsName}
+use Rattle.perc_word.specs.Word.{Also, AreSomeOctets, IsName}
 use Rattle.perc_word.proofs.Spelling.{bytes_from}
 use Rattle.perc_script_line.specs.Script.{AreChanges, By, Changes, Dropped as Taken, IsReplaced, IsScript, Options, Replaced, Send, extension_of, is_extension, is_pair}
 use Rattle.perc_run.specs.State.{Datagram, Member, Unsealed, datagram_at}

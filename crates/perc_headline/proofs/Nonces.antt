@@ -21,7 +21,8 @@ use Rattle.perc_srtp.specs.Sealed.{rtcp_iv, rtcp_ssrc}
 use Rattle.perc_keyset.specs.Set.{absorbed, is_of}
 use Rattle.perc_keyset.specs.declared.Entry.{Entry}
 use Rattle.perc_keyset.specs.declared.Op.TheVariants.{Remove}
-use Rattle.perc_receiver.specs.Table.{AreOctets, IsSecret, Secret, secret_of}
+use Rattle.perc_aes.specs.Octets.{AreOctets}
+use Rattle.perc_receiver.specs.Table.{IsSecret, Secret, secret_of}
 use Rattle.perc_receiver.specs.Receiver.{Receiver}
 use Rattle.perc_receiver.specs.Foreign.{is_foreign}
 use Rattle.perc_outgoing.specs.Sending.{Outgoing, after_rtcp, after_take, sent_row, sent_wraps}

@@ -18,10 +18,11 @@ use Rattle.perc_ekt.specs.Field as field
 use Rattle.perc_sender.specs.Schedule.{Taken, newest}
 use Rattle.perc_sender.specs.Schedule as sender
 use Rattle.perc_sender.proofs.Keys.{newest_push}
-use Rattle.perc_receiver.specs.Table.{AreOctets, Secret}
+use Rattle.perc_aes.specs.Octets.{AreOctets}
+use Rattle.perc_receiver.specs.Table.{Secret}
 use Rattle.perc_outgoing.specs.Sending.{IsContent, IsSending, Outgoing, RunsBeside, after_send, after_take, outer_index, send_fault, sent_datagram, sent_field, sent_header, sent_inner, started}
 use Rattle.perc_outgoing.proofs.Standing.{free_outer}
-use Rattle.perc_word.specs.Word.{Also, AreItems, AreOctets as AreSomeOctets, Each, most_of_four}
+use Rattle.perc_word.specs.Word.{Also, AreItems, AreSomeOctets, Each, most_of_four}
 use Rattle.perc_word.proofs.Spelling.{bytes_from}
 use Rattle.perc_script_line.specs.Script.{IsScript, Options, Send, extension_of, is_extension, most_csrcs}
 use Rattle.perc_run.specs.Sending.{content_of}

@@ -6,13 +6,11 @@ use Rattle.std.proofs.lemmas.List.{get_or_append_left, get_or-append_right, get_
 use Rattle.std.proofs.lemmas.List.FromFn.{get_or-map-range_with_len, length-map-range_with_len}
 use Rattle.std.proofs.lemmas.Nat.{xor_lt}
 use Rattle.perc_aes.specs.Cipher.{IsBlock, IsKey, IsKeyLength}
+use Rattle.perc_aes.specs.Octets.{AreOctets}
 use Rattle.perc_aes.proofs.CipherLaws.{IsBlock-aes}
 use Rattle.perc_kdf.specs.Derivation.{IsMaster, IsMasterLength, IsSession, KeyAndSalt, counter_block, derived, key_label, padded, salt_label, session_keys, stream_octet}
 use Rattle.perc_kdf.specs.declared.Kind.{Kind}
 use Rattle.perc_kdf.specs.declared.Kind.TheVariants.{Srtp, Srtcp}
-
-abbrev pub AreOctets : List ℕ → Type 0
-AreOctets xs = (k : ℕ) → get_or xs k 0 < 256
 
 below-append : (xs ys : List ℕ) → AreOctets xs → AreOctets ys → AreOctets (xs ++ ys)
 below-append xs ys p q k =

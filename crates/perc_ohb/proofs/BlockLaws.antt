@@ -9,6 +9,7 @@ use Rattle.std.proofs.lemmas.Nat.{be_bytes_2}
 use Rattle.byteorder.specs.Endian.{big_bytes, big_number}
 use Rattle.byteorder.specs.Numbers.{big_number-reads_back}
 use Rattle.perc_rtp.specs.Header.{bit}
+use Rattle.perc_rtp.proofs.Octets.{AreOctets}
 use Rattle.perc_ohb.specs.declared.block.Ohb.{Ohb}
 use Rattle.perc_ohb.specs.declared.block.OhbFault.{OhbFault}
 use Rattle.perc_ohb.specs.declared.block.OhbFault.TheVariants.{Empty, Reserved, Marker, Pt}
@@ -128,10 +129,6 @@ stands o before octets is =
     }
 
 -- ---- from octets to the block at their end
-
--- each is an octet
-abbrev pub AreOctets : List ℕ → Type 0
-AreOctets xs = (i : ℕ) → get_or xs i 0 < 256
 
 -- one octet more before the last n
 one_more : (n : ℕ) (xs : List ℕ) → n + 1 ≤ length xs → drop (length xs - (n + 1)) xs ≡ get_or xs (length xs - (n + 1)) 0 ∷ drop (length xs - n) xs

@@ -1,19 +1,18 @@
 -- Octets are read as what ends in a block, or refused for the first fault.
-use Rattle.std.proofs.Common.{◌≡◌, ℕ, ◌-◌, ◌≤◌, ◌<◌, ◌++◌, List, inl, inr, length, take, Option, Some, None, Ok, Err, refl, sym, ap, subst, ◌∙◌, arith}
+use Rattle.std.proofs.Common.{◌≡◌, ℕ, ◌-◌, ◌≤◌, ◌<◌, ◌++◌, List, length, take, Option, Some, None, Ok, Err, refl, sym, ap, subst, ◌∙◌, arith}
 use Rattle.std.specs.Prelude.{◌↔◌}
 use Rattle.std.specs.Option.{option_map_or}
 use Rattle.std.specs.List.{All}
 use Rattle.std.proofs.lemmas.Bool.Decides.{nat_tests}
-use Rattle.std.proofs.lemmas.List.{get_or_past, length-append, take_at}
-use Rattle.std.proofs.lemmas.List.Elements.{All-get_or}
-use Rattle.std.proofs.lemmas.Bool.{cases_lt}
+use Rattle.std.proofs.lemmas.List.{length-append, take_at}
 use Rattle.perc_rtp.specs.Header.{IsOctet}
+use Rattle.perc_rtp.proofs.Octets.{AreOctets-all}
 use Rattle.perc_ohb.specs.declared.block.Ohb.{Ohb}
 use Rattle.perc_ohb.specs.declared.block.OhbFault.{OhbFault}
 use Rattle.perc_ohb.specs.declared.block.OhbFault.TheVariants.{Short}
 use Rattle.perc_ohb.specs.Block.{EndsIn, block_length, last_config, ohb_fault, spelling}
 use Rattle.perc_ohb.specs.Reading.{before_block, block_at, block_of, config_at, pt_at}
-use Rattle.perc_ohb.proofs.BlockLaws.{AreOctets, reads, stands}
+use Rattle.perc_ohb.proofs.BlockLaws.{reads, stands}
 
 -- ---- refusals
 
@@ -49,13 +48,6 @@ pub pt_refused : (octets : List ℕ) (c : ℕ) (fault : OhbFault) → config_at 
 pt_refused octets c fault config fits is = refused_for octets fault (pt_fault octets c fault config fits is)
 
 -- ---- what is read
-
-octets_all : (xs : List ℕ) → All IsOctet xs → AreOctets xs
-octets_all xs h i =
-    elim (cases_lt i (length xs)) [
-      | inl lt ↦ All-get_or IsOctet xs i 0 lt h
-      | inr past ↦ rw (get_or_past xs i 0 past) (omega arith)
-    ]
 
 -- the parts that were read of octets without a fault
 record Faultless (octets : List ℕ) : Type 0 where
@@ -98,7 +90,7 @@ read_block o before octets fits read =
     let parts = no_fault octets is.0 in
     let b : Ohb = block_at octets in
     let n : ℕ = length octets - block_length (last_config octets) in
-    let found = reads octets (last_config octets) (block_length (last_config octets)) b.pt b.seq b.marker (octets_all octets fits) parts.config refl parts.len parts.pt refl refl in
+    let found = reads octets (last_config octets) (block_length (last_config octets)) b.pt b.seq b.marker (AreOctets-all octets fits) parts.config refl parts.len parts.pt refl refl in
     let long : length found.0 ≡ n = omega (arith, found.2, ap length found.1.split, length-append found.0 (spelling b)) in
     let front : before_block octets ≡ found.0 = ap (take n) found.1.split ∙ take_at found.0 (spelling b) n long in
     let ends : EndsIn b (before_block octets) octets =

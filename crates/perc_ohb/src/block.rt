@@ -1,9 +1,10 @@
 // The Original Header Block.
-ghost use Rattle.std.specs.Prelude.{◌≡◌, ℕ, ◌+◌, ◌/◌, ◌%◌, ◌^◌, ◌<◌, ◌≤◌, ◌==◌, List, ◌++◌, length, drop, Ok, Err, IfOk, IfSome, MatchResult};
+ghost use Rattle.std.specs.Prelude.{◌≡◌, ℕ, ◌+◌, ◌<◌, ◌≤◌, List, ◌++◌, length, drop, Ok, Err, IfOk, IfSome, MatchResult};
 ghost use Rattle.perc_ohb.specs.Block.{EndsIn, IsOhb, block_length, config, last_config, marker_bits, pt_octets, seq_octets, spelling};
 ghost use Rattle.perc_ohb.specs.Reading.{block_of, config_at, marker_in, pt_at, seq_at};
 
 use byteorder::{BigEndian, ByteOrder};
+use perc_rtp::is_set;
 
 /// The original values of what a distributor changed in a header; None where a field is as its sender made it.
 #[derive(Clone, Copy, Debug, PartialEq, Eq)]
@@ -143,14 +144,6 @@ fn read_marker(config: u8) -> Option<bool>
         return None;
     }
     Some(is_set(config, MARKER))
-}
-
-// Whether a bit is set, counted from the lowest.
-fn is_set(octet: u8, bit: u8) -> bool
-    requires { bit < 8 }
-    ensures { result ≡ (octet / 2 ^ bit % 2 == 1) }
-{
-    (octet >> bit) & 1 == 1
 }
 
 // Writes the payload type to the front, where it is kept, and answers how many octets that took.

@@ -4,7 +4,7 @@ use Rattle.std.specs.Prelude.{IsOk, Option, ◌==◌}
 use Rattle.std.proofs.lemmas.Bool.{eqb-false, ne_eqb}
 use Rattle.std.proofs.lemmas.Bool.Decides.{nat_tests}
 use Rattle.std.proofs.lemmas.List.{take_at}
-use Rattle.perc_rtp.specs.Carried.{rtcp_head}
+use Rattle.perc_rtp.specs.Carried.{longest_rtcp, rtcp_head}
 use Rattle.perc_srtp.specs.Sealed.{sealed_rtcp}
 use Rattle.perc_srtp.proofs.RtcpLaws.{length-sealed_rtcp}
 use Rattle.perc_outgoing.specs.declared.fault.RtcpSendFault.{RtcpSendFault}
@@ -18,7 +18,7 @@ use Rattle.perc_outgoing.proofs.Standing.{rtcp_stands}
 pub plain_reads : (plain : List ℕ) → plain_fault plain ≡ None → IsOk (rtcp_head plain)
 plain_reads plain none = grind (arith, nat_tests)
 
-pub plain_few : (plain : List ℕ) → plain_fault plain ≡ None → length plain ≤ 1200
+pub plain_few : (plain : List ℕ) → plain_fault plain ≡ None → length plain ≤ longest_rtcp
 plain_few plain none = grind (arith, nat_tests)
 
 pub rtcp_plain : (o : Outgoing) (plain : List ℕ) (fault : RtcpSendFault) → plain_fault plain ≡ Some fault → rtcp_send_fault o plain ≡ Some fault

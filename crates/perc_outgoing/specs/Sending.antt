@@ -6,6 +6,7 @@ use Rattle.perc_kdf.specs.Derivation.{KeyAndSalt, session_keys}
 use Rattle.perc_kdf.specs.declared.Kind.TheVariants.{Srtp, Srtcp}
 use Rattle.perc_window.specs.Index.{nearest}
 use Rattle.perc_window.specs.Replay.{greatest}
+use Rattle.perc_rtp.specs.Carried.{longest_rtcp}
 use Rattle.perc_rtp.specs.Header.{Header, version}
 use Rattle.perc_rtp.specs.Fields.{cut}
 use Rattle.perc_rtp.specs.Media.{Content, header_of, rest_of, media_fault}
@@ -18,7 +19,8 @@ use Rattle.perc_ekt.specs.Key.{plain_text}
 use Rattle.perc_sender.specs.Schedule.{Sending, Taken, newest, place_under, after_packet, roll_over, with_key}
 use Rattle.perc_sender.specs.Schedule as sender
 use Rattle.perc_sender.specs.declared.SendPlace.{SendPlace}
-use Rattle.perc_receiver.specs.Table.{AreOctets, Secret, Row, Wrap, inner_keys}
+use Rattle.perc_aes.specs.Octets.{AreOctets}
+use Rattle.perc_receiver.specs.Table.{Secret, Row, Wrap, inner_keys}
 use Rattle.perc_outgoing.specs.declared.fault.SendFault.{SendFault}
 use Rattle.perc_outgoing.specs.declared.fault.SendFault.TheVariants as fault
 use Rattle.perc_outgoing.specs.declared.fault.RtcpSendFault.{RtcpSendFault}
@@ -89,12 +91,12 @@ after_take out s key = record out { secret = s; sending = with_key out.sending s
 
 -- ---- RTCP
 
--- the first fault of a packet that is to be sent: it has fewer than 8 octets, another version than 2, or more than 1200 octets
+-- the first fault of a packet that is to be sent: it has fewer than 8 octets, another version than 2, or too many
 abbrev pub plain_fault : List ℕ → Option RtcpSendFault
 plain_fault plain =
     if nat_lt (length plain) 8 then Some rtcp_fault.Short
     else (if not (version plain == 2) then Some rtcp_fault.Version
-    else (if nat_lt 1200 (length plain) then Some rtcp_fault.Long else None))
+    else (if nat_lt longest_rtcp (length plain) then Some rtcp_fault.Long else None))
 
 -- the first thing for which it isn't sent: a fault of its own, or no index is left
 abbrev pub rtcp_send_fault : Outgoing → List ℕ → Option RtcpSendFault

@@ -17,7 +17,7 @@ pub enum RtcpSendFault {
     Short,
     /// The version isn't 2.
     Version,
-    /// It has more than 1200 octets.
+    /// It has more than `perc_rtp::LONGEST_RTCP` octets.
     Long,
     /// No index below 2^31 is left.
     Spent,

@@ -17,12 +17,9 @@ use perc_aes::AesKey;
 use perc_double::seal_double;
 use perc_ekt::{EktKeyRecord, wrap_key, write_full, write_short};
 use perc_kdf::{Kind, Master};
-use perc_rtp::{RtcpHead, RtcpShape};
+use perc_rtp::{LONGEST_RTCP, RtcpHead, RtcpShape};
 use perc_sender::{SendPlace, Sender};
 use perc_srtp::{Keys, TxStream};
-
-// How many octets an RTCP packet has at most.
-const MOST_RTCP: usize = 1200;
 
 /// A sender that took its first key, of 16 or 32 octets.
 pub(super) fn sender_with(ssrc: u32, first: u64, spi: u16, key: &[u8]) -> Sender
@@ -128,7 +125,7 @@ pub(super) fn fault_of(plain: &[u8]) -> Option<RtcpSendFault>
         Err(RtcpShape::Version) => return Some(RtcpSendFault::Version),
         Ok(_) => {}
     }
-    if plain.len() > MOST_RTCP {
+    if plain.len() > LONGEST_RTCP {
         return Some(RtcpSendFault::Long);
     }
     None

@@ -1,7 +1,8 @@
 -- What the senders of a conference made: a row for each packet that was sent, and a wrap for each key that went out in a full
 -- field (RFC 8723 section 5.1, RFC 8870 section 4.1).
-use Rattle.std.specs.Prelude.{◌≡◌, ℕ, ◌%◌, ◌^◌, ◌<◌, ◌⊎◌, ◌==◌, nat_lt, List, ◌++◌, length, map, Option, None, All, AllPairs, MatchOption, find, take, slice_index}
+use Rattle.std.specs.Prelude.{◌≡◌, ℕ, ◌%◌, ◌^◌, ◌<◌, ◌⊎◌, ◌==◌, nat_lt, List, ◌++◌, length, map, Option, None, All, AllPairs, MatchOption, find, take}
 use Rattle.std.specs.List.Sorted.{IsStrictlyIncreasing}
+use Rattle.perc_aes.specs.Octets.{AreOctets}
 use Rattle.perc_kdf.specs.Derivation.{KeyAndSalt, session_keys}
 use Rattle.perc_kdf.specs.declared.Kind.TheVariants.{Srtp}
 use Rattle.perc_rtp.specs.Header.{Header, IsHeader}
@@ -20,9 +21,6 @@ pub record Secret : Type 0 where
 -- the secret that a record tells
 abbrev pub secret_in : EktKeyRecord → Secret
 secret_in r = record { spi = r.spi; key = take r.len r.key; salt = r.salt }
-
-abbrev pub AreOctets : List ℕ → Type 0
-AreOctets octets = (k : ℕ) → slice_index octets k < 256
 
 -- A secret is right: a key of 16 or 32 octets, and a salt of 12.
 pub record IsSecret (s : Secret) : Type 0 where

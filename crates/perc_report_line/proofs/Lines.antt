@@ -9,7 +9,7 @@ use Rattle.std.proofs.lemmas.List.{take_at}
 use Rattle.std.proofs.lemmas.Option.{same_Some}
 use Rattle.hex.specs.Hex.{encode_lower}
 use Rattle.uuid.specs.Text.{hyphenated_text, lower}
-use Rattle.perc_word.specs.Word.{words_of, name_in, is_name, IsName, AreOctets, marker_text, payload_text, most_of_four}
+use Rattle.perc_word.specs.Word.{words_of, name_in, is_name, IsName, AreSomeOctets, marker_text, payload_text, most_of_four}
 use Rattle.perc_word.proofs.Split.{is_free, parts-again, parts-joined}
 use Rattle.perc_word.proofs.Spelling.{bind_some, chosen, same, name_spelling, octets_spelling, marker_spelling, payload_spelling}
 use Rattle.perc_word.proofs.Taking.{taken, again_taken, ended}
@@ -218,16 +218,16 @@ wire_told : (datagram : ℕ) (w : Way) (words : List (List ℕ)) (r : Report) �
 unfolding report.wire_in
 wire_told datagram w words r f h = again_taken _ _ _ four_kind _ datagram _ f ∙ again_taken _ _ _ way_kind _ w _ tt ∙ h
 
-up_told : (datagram : ℕ) (name octets : List ℕ) → IsName name → AreOctets octets → wired datagram way.Up (name ∷ encode_lower octets ∷ []) ≡ Some (report.WireUp datagram name octets)
+up_told : (datagram : ℕ) (name octets : List ℕ) → IsName name → AreSomeOctets octets → wired datagram way.Up (name ∷ encode_lower octets ∷ []) ≡ Some (report.WireUp datagram name octets)
 up_told datagram name octets f g = again_taken _ _ _ name_spelling _ name _ f ∙ again_taken _ _ _ octets_spelling _ octets _ g
 
-made_told : (datagram : ℕ) (octets : List ℕ) → AreOctets octets → wired datagram way.Made (encode_lower octets ∷ []) ≡ Some (report.WireMade datagram octets)
+made_told : (datagram : ℕ) (octets : List ℕ) → AreSomeOctets octets → wired datagram way.Made (encode_lower octets ∷ []) ≡ Some (report.WireMade datagram octets)
 made_told datagram octets g = again_taken _ _ _ octets_spelling _ octets _ g
 
-reseal_told : (datagram : ℕ) (name octets : List ℕ) → IsName name → AreOctets octets → wired datagram way.Reseal (name ∷ encode_lower octets ∷ []) ≡ Some (report.WireReseal datagram name octets)
+reseal_told : (datagram : ℕ) (name octets : List ℕ) → IsName name → AreSomeOctets octets → wired datagram way.Reseal (name ∷ encode_lower octets ∷ []) ≡ Some (report.WireReseal datagram name octets)
 reseal_told datagram name octets f g = again_taken _ _ _ name_spelling _ name _ f ∙ again_taken _ _ _ octets_spelling _ octets _ g
 
-down_told : (datagram : ℕ) (name octets : List ℕ) → IsName name → AreOctets octets → wired datagram way.Down (name ∷ encode_lower octets ∷ []) ≡ Some (report.WireDown datagram name octets)
+down_told : (datagram : ℕ) (name octets : List ℕ) → IsName name → AreSomeOctets octets → wired datagram way.Down (name ∷ encode_lower octets ∷ []) ≡ Some (report.WireDown datagram name octets)
 down_told datagram name octets f g = again_taken _ _ _ name_spelling _ name _ f ∙ again_taken _ _ _ octets_spelling _ octets _ g
 
 drop_told : (datagram : ℕ) (name : List ℕ) (reason : Loss) → IsReport (report.Dropped datagram name reason) → report.drop_in (decimal datagram ∷ name ∷ loss_words reason) ≡ Some (report.Dropped datagram name reason)

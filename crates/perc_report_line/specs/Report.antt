@@ -6,7 +6,7 @@ use Rattle.std.specs.Fmt.{decimal}
 use Rattle.hex.specs.Hex.{encode_lower}
 use Rattle.uuid.specs.Text.{hyphenated_text, lower}
 use Rattle.perc_rtp.specs.Media.{is_payload_type}
-use Rattle.perc_word.specs.Word.{◌>>=◌, words_of, first_of, word_then, ends, text_in, Also, IsName, name_in, number_in, most_of_two, most_of_four, AreOctets, are_octets, octets_in, payload_in, payload_text, payload_type_in, marker_in, marker_text, uuid_in}
+use Rattle.perc_word.specs.Word.{◌>>=◌, words_of, first_of, word_then, ends, text_in, Also, IsName, name_in, number_in, most_of_two, most_of_four, AreSomeOctets, are_octets, octets_in, payload_in, payload_text, payload_type_in, marker_in, marker_text, uuid_in}
 use Rattle.perc_report_line.specs.declared.reasons.Refusal.{Refusal}
 use Rattle.perc_report_line.specs.declared.reasons.Denial.{Denial}
 use Rattle.perc_report_line.specs.declared.reasons.Loss.{Loss}
@@ -243,12 +243,12 @@ IsReport (Left name) = IsName name
 IsReport (Granted name spi) = IsName name × (spi ≤ most_of_two)
 IsReport (Denied name reason) = IsName name × IsDenial reason
 IsReport (Rekeyed name spi epoch) = IsName name × (spi ≤ most_of_two) × (epoch ≤ most_of_two)
-IsReport (WireUp datagram name octets) = (datagram ≤ most_of_four) × IsName name × AreOctets octets
-IsReport (WireMade datagram octets) = (datagram ≤ most_of_four) × AreOctets octets
-IsReport (WireReseal datagram name octets) = (datagram ≤ most_of_four) × IsName name × AreOctets octets
-IsReport (WireDown datagram name octets) = (datagram ≤ most_of_four) × IsName name × AreOctets octets
+IsReport (WireUp datagram name octets) = (datagram ≤ most_of_four) × IsName name × AreSomeOctets octets
+IsReport (WireMade datagram octets) = (datagram ≤ most_of_four) × AreSomeOctets octets
+IsReport (WireReseal datagram name octets) = (datagram ≤ most_of_four) × IsName name × AreSomeOctets octets
+IsReport (WireDown datagram name octets) = (datagram ≤ most_of_four) × IsName name × AreSomeOctets octets
 IsReport (Dropped datagram name reason) = (datagram ≤ most_of_four) × IsName name × IsLoss reason
 IsReport (RefuseMedia datagram reason) = (datagram ≤ most_of_four) × IsRefusal reason
 IsReport (Accept a) = IsAcceptance a
-IsReport (Rtcp datagram name octets) = (datagram ≤ most_of_four) × IsName name × AreOctets octets
+IsReport (Rtcp datagram name octets) = (datagram ≤ most_of_four) × IsName name × AreSomeOctets octets
 IsReport (Refuse datagram name reason) = (datagram ≤ most_of_four) × IsName name × IsRefusal reason

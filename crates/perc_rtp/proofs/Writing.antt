@@ -7,7 +7,7 @@ use Rattle.std.proofs.lemmas.Bool.Decides.{nat_tests}
 use borrow.Rule.Slice.PartMut.{put_mid, mid_of}
 use Rattle.byteorder.specs.Endian.{big_bytes}
 use Rattle.perc_rtp.specs.Header.{Header, fixed_octets, extension_octets, spelling}
-use Rattle.perc_rtp.specs.Media.{Content, media_fault, padding_octets}
+use Rattle.perc_rtp.specs.Media.{Content, longest_payload, media_fault, padding_octets}
 
 -- Behind what was written, one part more was written to the front of the rest.
 pub written_more : (w b old new part : List ℕ) (n k : ℕ) → length w ≡ n → length b ≡ k → n + k ≤ length old → new ≡ w ++ drop n old
@@ -62,7 +62,7 @@ unfolding spelling
 parts_are h payload padding = append_assoc (fixed_octets h ++ flat_map (big_bytes 4) h.csrcs ++ extension_octets h.extension) payload padding
 
 -- what fits a packet without a fault
-pub fits_without_fault : (c : Content) → media_fault c ≡ None → (length c.csrcs ≤ 15) × (length c.payload + c.pad ≤ 1200)
+pub fits_without_fault : (c : Content) → media_fault c ≡ None → (length c.csrcs ≤ 15) × (length c.payload + c.pad ≤ longest_payload)
 fits_without_fault c e = grind (arith, nat_tests)
 
 -- zeros, and the count of the padding behind them, written to the front of a list

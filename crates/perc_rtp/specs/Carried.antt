@@ -21,6 +21,10 @@ kind_of (first ∷ second ∷ rest) =
     if is_between 20 63 first then Dtls
     else (if is_between 128 191 first then (if is_between 192 223 second then Rtcp else Rtp) else Other)
 
+-- how many octets an RTCP packet has at most that is sent, before it is sealed
+abbrev pub longest_rtcp : ℕ
+longest_rtcp = 1200
+
 -- the head of 8 octets: the version in the two high bits of the first, the packet type in the second, the SSRC in the
 -- last four
 abbrev pub rtcp_head : List ℕ → Result RtcpHead RtcpShape

@@ -57,11 +57,15 @@ is_payload_type pt = nat_lt pt 64 || (nat_le 96 pt && nat_lt pt 128)
 abbrev pub is_short_extension : ℕ × List ℕ → Bool
 is_short_extension e = (length e.1 % 4 == 0) && nat_le (length e.1) 120
 
+-- how many octets a payload has at most, its padding included
+abbrev pub longest_payload : ℕ
+longest_payload = 1200
+
 -- the first thing that keeps the content from being sent
 abbrev pub media_fault : Content → Option MediaFault
 media_fault c =
     if not (is_payload_type c.pt) then Some Pt
     else (if nat_lt 15 (length c.csrcs) then Some Csrcs
     else (if not (option_map_or is_short_extension c.extension true) then Some Extension
-    else (if nat_lt 1200 (length c.payload) then Some Payload
-    else (if nat_lt 1200 (length c.payload + c.pad) then Some Padding else None))))
+    else (if nat_lt longest_payload (length c.payload) then Some Payload
+    else (if nat_lt longest_payload (length c.payload + c.pad) then Some Padding else None))))

@@ -31,6 +31,9 @@ pub fn kind(datagram: &[u8]) -> Carried
     }
 }
 
+/// How many octets an RTCP packet has at most that is sent, before it is sealed.
+pub const LONGEST_RTCP: usize = 1200;
+
 /// What the head of an RTCP packet says (RFC 3550 section 6.4.1).
 #[derive(Clone, Copy, Debug, PartialEq, Eq)]
 pub struct RtcpHead {

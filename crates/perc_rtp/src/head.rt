@@ -1,5 +1,5 @@
 // The header of an RTP packet, read from its octets.
-ghost use Rattle.std.specs.Prelude.{◌≡◌, ◌+◌, ◌/◌, ◌%◌, ◌^◌, ◌<◌, ◌≤◌, ◌==◌, List, ℕ, length, drop, Ok, Err, IfOk, MatchResult};
+ghost use Rattle.std.specs.Prelude.{◌≡◌, ◌+◌, ◌/◌, ◌%◌, ◌^◌, ◌<◌, ◌≤◌, ◌==◌, List, ℕ, length, drop, Ok, Err, IfOk, OnOk, MatchResult};
 ghost use Rattle.byteorder.specs.Endian.{big_number};
 ghost use Rattle.perc_rtp.specs.Fields.{IsRtp};
 ghost use Rattle.perc_rtp.specs.Reading.{cut_at, end_at, head_at, packet_of};
@@ -49,7 +49,7 @@ impl RtpHead {
         // What is read is the header of this packet.
         ensures ok { IfOk result (λ head. (h : Header) × (rest : List ℕ) × IsPacket h rest packet.now × (head ≡ head_of h)) }
         // So the octets are a packet, whose fields can be set.
-        ensures reads { IfOk result (λ _. IsRtp packet.now) }
+        ensures reads { OnOk result (IsRtp packet.now) }
         // Each packet is read.
         ensures only { (h : Header) (rest : List ℕ) → IsPacket h rest packet.now → result ≡ Ok (head_of h) }
         // And what is answered for any octets, the first fault first.
@@ -118,8 +118,8 @@ fn head_in(packet: &[u8], cut: usize, len: usize) -> RtpHead
     }
 }
 
-// Whether a bit is set, counted from the lowest.
-fn is_set(octet: u8, bit: u8) -> bool
+/// Whether a bit of an octet is set, 0 for the lowest and 7 for the highest.
+pub fn is_set(octet: u8, bit: u8) -> bool
     requires { bit < 8 }
     ensures { result ≡ (octet / 2 ^ bit % 2 == 1) }
 {

@@ -9,7 +9,7 @@ mod media;
 #[cfg(test)]
 mod tests;
 
-pub use carried::{Carried, RtcpHead, RtcpShape, kind};
+pub use carried::{Carried, LONGEST_RTCP, RtcpHead, RtcpShape, kind};
 pub use fields::{cut_header, set_marker, set_pt, set_seq, without_padding};
-pub use head::{RtpFault, RtpHead};
-pub use media::{Media, MediaFault, write_packet};
+pub use head::{RtpFault, RtpHead, is_set};
+pub use media::{LONGEST_PAYLOAD, Media, MediaFault, write_packet, write_words};

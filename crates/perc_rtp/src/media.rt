@@ -10,6 +10,9 @@ ghost use Rattle.perc_rtp.specs.Media as media_spec;
 
 use byteorder::{BigEndian, ByteOrder};
 
+/// How many octets a payload has at most, its padding included.
+pub const LONGEST_PAYLOAD: usize = 1200;
+
 /// A piece of media to be sent.
 #[derive(Clone, Copy)]
 pub struct Media<'a> {
@@ -23,7 +26,7 @@ pub struct Media<'a> {
     pub csrcs: &'a [u32],
     /// A header extension: its profile, and at most 30 words of 4 octets.
     pub extension: Option<(u16, &'a [u8])>,
-    /// The payload, at most 1200 octets together with the padding.
+    /// The payload, at most `LONGEST_PAYLOAD` octets together with the padding.
     pub payload: &'a [u8],
     /// How many octets of padding follow the payload. 0 stands for a packet without padding.
     pub pad: u8,
@@ -38,9 +41,9 @@ pub enum MediaFault {
     Csrcs,
     /// The extension isn't whole words of 4 octets, or has more than 30 of them.
     Extension,
-    /// The payload has more than 1200 octets.
+    /// The payload has more than `LONGEST_PAYLOAD` octets.
     Payload,
-    /// Payload and padding together have more than 1200 octets.
+    /// Payload and padding together have more than `LONGEST_PAYLOAD` octets.
     Padding,
 }
 
@@ -77,10 +80,10 @@ fn fault_of(media: &Media<'_>) -> Option<MediaFault>
     if !has_short_extension(media) {
         return Some(MediaFault::Extension);
     }
-    if media.payload.len() > 1200 {
+    if media.payload.len() > LONGEST_PAYLOAD {
         return Some(MediaFault::Payload);
     }
-    if media.payload.len() + usize::from(media.pad) > 1200 {
+    if media.payload.len() + usize::from(media.pad) > LONGEST_PAYLOAD {
         return Some(MediaFault::Padding);
     }
     None
@@ -197,8 +200,9 @@ fn write_extension(media: &Media<'_>, out: &mut [u8]) -> usize
     }
 }
 
-// Writes a profile, the count of words and the words.
-fn write_words(profile: u16, words: &[u8], out: &mut [u8])
+/// Writes an extension to the front of `out`: its profile, the count of its words of 4 octets, at most 30, and the words
+/// (RFC 3550 section 5.3.1). What stands behind it in `out` stays.
+pub fn write_words(profile: u16, words: &[u8], out: &mut [u8])
     requires whole { length words.now % 4 ≡ 0 }
     requires short { length words.now ≤ 120 }
     requires room { 124 ≤ length out.old }

@@ -11,7 +11,7 @@ use Rattle.hex.specs.Hex.{encode_lower}
 use Rattle.perc_base.specs.declared.profile.Profile.{Profile}
 use Rattle.perc_base.specs.declared.profile.Profile.TheVariants.{Aes128, Aes256}
 use Rattle.perc_rtp.specs.Media.{is_payload_type}
-use Rattle.perc_word.specs.Word.{Also, AreOctets, AreItems, IsName, name_text, number_in, most_of_two, most_of_four, ssrc_text, ssrcs_in, datagrams_in, names_in, payload_type_in, list_text}
+use Rattle.perc_word.specs.Word.{Also, AreSomeOctets, AreItems, IsName, name_text, number_in, most_of_two, most_of_four, ssrc_text, ssrcs_in, datagrams_in, names_in, payload_type_in, list_text}
 use Rattle.perc_word.specs.Digits.{is_lower_digit}
 use Rattle.perc_word.proofs.Split.{is_free}
 use Rattle.perc_word.proofs.Spelled.{encode-lower}
@@ -87,22 +87,22 @@ four_kind = number_spelling most_of_four (omega arith)
 pub payload_type_kind : Spelling payload_type_in decimal (Also (λ n. n ≤ 127) is_payload_type)
 payload_type_kind = only_spelling _ _ _ (number_spelling 127 (omega arith)) is_payload_type
 
-pub key_kind : Spelling key_in encode_lower (Also AreOctets is_key)
+pub key_kind : Spelling key_in encode_lower (Also AreSomeOctets is_key)
 key_kind = only_spelling _ _ _ octets_spelling is_key
 
-pub pair_kind : Spelling pair_in encode_lower (Also AreOctets is_pair)
+pub pair_kind : Spelling pair_in encode_lower (Also AreSomeOctets is_pair)
 pair_kind = only_spelling _ _ _ octets_spelling is_pair
 
-pub salt_kind : Spelling salt_in encode_lower (Also AreOctets is_salt)
+pub salt_kind : Spelling salt_in encode_lower (Also AreSomeOctets is_salt)
 salt_kind = only_spelling _ _ _ octets_spelling is_salt
 
-pub rtcp_kind : Spelling rtcp_octets_in encode_lower (Also AreOctets is_rtcp)
+pub rtcp_kind : Spelling rtcp_octets_in encode_lower (Also AreSomeOctets is_rtcp)
 rtcp_kind = only_spelling _ _ _ octets_spelling is_rtcp
 
-pub datagram_kind : Spelling datagram_in encode_lower (Also AreOctets is_datagram)
+pub datagram_kind : Spelling datagram_in encode_lower (Also AreSomeOctets is_datagram)
 datagram_kind = only_spelling _ _ _ octets_spelling is_datagram
 
-pub extension_kind : Spelling extension_in encode_lower (Also AreOctets is_extension)
+pub extension_kind : Spelling extension_in encode_lower (Also AreSomeOctets is_extension)
 extension_kind = only_spelling _ _ _ octets_spelling is_extension
 
 pub pad_kind : Spelling pad_in decimal (Also (λ n. n ≤ 255) (λ n. nat_le 1 n))
@@ -138,7 +138,7 @@ replaced-back word r h =
           subst (Back word) by.2 (back.0, back.1)
     ]
 
-no_drop : (octets : List ℕ) → AreOctets octets → bytes_eq (encode_lower octets) (codes "drop") ≡ false
+no_drop : (octets : List ℕ) → AreSomeOctets octets → bytes_eq (encode_lower octets) (codes "drop") ≡ false
 no_drop octets h =
     false_from_ne_true _ (λ t.
     let digits = encode-lower octets (bytes_from octets h.octets) in

@@ -1,5 +1,5 @@
 -- The lines of a conference script: what they are, and how each is spelled.
-use Rattle.std.specs.Prelude.{◌≡◌, ℕ, ◌+◌, ◌/◌, ◌%◌, ◌≤◌, Bool, true, ◌&&◌, ◌||◌, ◌==◌, nat_le, if◌then◌else◌, List, [], ◌∷◌, length, take, drop, codes, Option, Some, None, unwrap_or, slice_index, IfSome, IsTrue}
+use Rattle.std.specs.Prelude.{◌≡◌, ℕ, ◌+◌, ◌/◌, ◌%◌, ◌≤◌, Bool, true, ◌&&◌, ◌||◌, ◌==◌, nat_le, if◌then◌else◌, List, [], ◌∷◌, length, take, drop, codes, Option, Some, None, unwrap_or, slice_index, IfSome, OnSome, IsTrue}
 use Rattle.std.specs.List.{list_all, join_with_byte}
 use Rattle.std.specs.Option.{option_map}
 use Rattle.std.specs.Str.{bytes_eq}
@@ -9,8 +9,9 @@ use Rattle.byteorder.specs.Endian.{big_number}
 use Rattle.perc_base.specs.declared.profile.Profile.{Profile}
 use Rattle.perc_base.specs.declared.profile.Profile.TheVariants.{Aes128, Aes256}
 use Rattle.perc_base.specs.Profile.{key_length}
-use Rattle.perc_rtp.specs.Media.{is_payload_type}
-use Rattle.perc_word.specs.Word.{◌>>=◌, words_of, word_then, ends, option_then, option_words, only, Also, text_in, IsName, name_in, name_text, number_in, most_of_two, most_of_four, AreOctets, are_octets, octets_in, ssrc_in, ssrc_text, payload_in, payload_text, payload_type_in, marker_in, marker_text, list_text, AreItems, ssrcs_in, datagrams_in, names_in}
+use Rattle.perc_rtp.specs.Carried.{longest_rtcp}
+use Rattle.perc_rtp.specs.Media.{is_payload_type, longest_payload}
+use Rattle.perc_word.specs.Word.{◌>>=◌, words_of, word_then, ends, option_then, option_words, only, Also, text_in, IsName, name_in, name_text, number_in, most_of_two, most_of_four, AreSomeOctets, are_octets, octets_in, ssrc_in, ssrc_text, payload_in, payload_text, payload_type_in, marker_in, marker_text, list_text, AreItems, ssrcs_in, datagrams_in, names_in}
 use Rattle.perc_script_line.specs.declared.verb.Verb.{Verb}
 use Rattle.perc_script_line.specs.declared.verb.Verb.TheVariants as verb
 
@@ -137,7 +138,7 @@ salt_in word = only is_salt octets_in word
 
 -- an RTCP packet (RFC 3550 section 6.1): 8 to 1200 octets, version 2, a type of 192 to 223 (RFC 5761 section 4)
 abbrev pub is_rtcp : List ℕ → Bool
-is_rtcp octets = nat_le 8 (length octets) && nat_le (length octets) 1200 && (slice_index octets 0 / 64 == 2) && nat_le 192 (slice_index octets 1) && nat_le (slice_index octets 1) 223
+is_rtcp octets = nat_le 8 (length octets) && nat_le (length octets) longest_rtcp && (slice_index octets 0 / 64 == 2) && nat_le 192 (slice_index octets 1) && nat_le (slice_index octets 1) 223
 
 abbrev pub rtcp_octets_in : List ℕ → Option (List ℕ)
 rtcp_octets_in word = only is_rtcp octets_in word
@@ -180,12 +181,8 @@ options_words o words = option_words (codes "csrc=") (list_text ssrc_text) o.csr
 
 pub record AreOptions (o : Options) : Type 0 where
   pub csrcs : IfSome o.csrcs (AreItems most_csrcs (λ ssrc. ssrc ≤ most_of_four))
-  pub extension : IfSome o.extension (Also AreOctets is_extension)
+  pub extension : IfSome o.extension (Also AreSomeOctets is_extension)
   pub pad : IfSome o.pad (Also (λ pad. pad ≤ 255) (λ pad. nat_le 1 pad))
-
--- how many octets a payload and its padding have at most
-abbrev pub longest_payload : ℕ
-longest_payload = 1200
 
 abbrev pub is_short : List ℕ → Options → Bool
 is_short payload o = nat_le (length payload + unwrap_or o.pad 0) longest_payload
@@ -201,7 +198,7 @@ replaced_text (By extension) = encode_lower extension
 
 abbrev pub IsReplaced : Replaced → Type 0
 IsReplaced Dropped = Unit {0}
-IsReplaced (By extension) = Also AreOctets is_extension extension
+IsReplaced (By extension) = Also AreSomeOctets is_extension extension
 
 unfoldable pub changes_next : List (List ℕ) → Option (Changes × List (List ℕ))
 changes_next words = option_then (codes "pt=") payload_type_in (λ pt.
@@ -216,7 +213,7 @@ changes_words c words = option_words (codes "pt=") decimal c.pt (option_words (c
 pub record AreChanges (c : Changes) : Type 0 where
   pub pt : IfSome c.pt (Also (λ pt. pt ≤ 127) is_payload_type)
   pub shift : IfSome c.shift (λ shift. shift ≤ most_of_two)
-  pub marker : IfSome c.marker (λ _. Unit {0})
+  pub marker : OnSome c.marker (Unit {0})
   pub extension : IfSome c.extension IsReplaced
 
 -- ---- forms
@@ -353,17 +350,17 @@ script_text script = join_with_byte 32 (script_words script)
 abbrev pub IsScript : Script → Type 0
 IsScript Nothing = Unit {0}
 IsScript (Conference profile) = Unit {0}
-IsScript (Ekt key salt) = Also AreOctets is_key key × Also AreOctets is_salt salt
+IsScript (Ekt key salt) = Also AreSomeOctets is_key key × Also AreSomeOctets is_salt salt
 IsScript (Join name ssrc seq client server key) =
-    IsName name × (ssrc ≤ most_of_four) × (seq ≤ most_of_two) × Also AreOctets is_pair client × Also AreOctets is_pair server × Also AreOctets is_key key
+    IsName name × (ssrc ≤ most_of_four) × (seq ≤ most_of_two) × Also AreSomeOctets is_pair client × Also AreSomeOctets is_pair server × Also AreSomeOctets is_key key
 IsScript (Leave name) = IsName name
-IsScript (Grant name spi key) = IsName name × (spi ≤ most_of_two) × Also AreOctets is_key key
-IsScript (Rekey name key) = IsName name × Also AreOctets is_key key
+IsScript (Grant name spi key) = IsName name × (spi ≤ most_of_two) × Also AreSomeOctets is_key key
+IsScript (Rekey name key) = IsName name × Also AreSomeOctets is_key key
 IsScript (Send name pt marker timestamp payload options) =
     IsName name × Also (λ pt. pt ≤ 127) is_payload_type pt × (timestamp ≤ most_of_four) × IsTrue (are_octets payload) × AreOptions options × IsTrue (is_short payload options)
-IsScript (Rtcp name octets) = IsName name × Also AreOctets is_rtcp octets
-IsScript (Inject octets) = Also AreOctets is_datagram octets
-IsScript (Alter datagram offset octets) = (datagram ≤ most_of_four) × (offset ≤ most_of_four) × AreOctets octets
+IsScript (Rtcp name octets) = IsName name × Also AreSomeOctets is_rtcp octets
+IsScript (Inject octets) = Also AreSomeOctets is_datagram octets
+IsScript (Alter datagram offset octets) = (datagram ≤ most_of_four) × (offset ≤ most_of_four) × AreSomeOctets octets
 IsScript (Graft first front second back) = (first ≤ most_of_four) × (front ≤ most_of_four) × (second ≤ most_of_four) × (back ≤ most_of_four)
 IsScript (Reseal datagram name roc changes) = (datagram ≤ most_of_four) × IsName name × (roc ≤ most_of_four) × AreChanges changes
 IsScript (Forward name datagrams changes recipients) =

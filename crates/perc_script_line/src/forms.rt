@@ -1,6 +1,7 @@
 // The forms of lines: what stands behind their first words.
 ghost use Rattle.std.specs.Prelude.{◌≡◌, ◌+◌, codes, length, nat_le, unwrap_or};
 ghost use Rattle.std.specs.Option.{option_map};
+ghost use Rattle.perc_rtp.specs.Media.{longest_payload};
 ghost use Rattle.perc_word.specs.Word.{next_in, option_in, datagrams_in, names_in};
 ghost use Rattle.perc_word.specs.Left.{words_left, value_taken};
 ghost use Rattle.perc_script_line.specs.Script as spec;
@@ -10,13 +11,11 @@ use super::ScriptLine;
 use super::changes::next_changes;
 use super::keys::{next_datagram, next_key, next_pair, next_profile, next_rtcp, next_salt};
 use super::options::next_options;
+use perc_rtp::LONGEST_PAYLOAD;
 use perc_word::{
     Datagrams, Name, Names, Octets, end, next_marker, next_octets, next_option, next_payload,
     next_payload_type, next_ssrc, next_u16, next_u32, next_word,
 };
-
-// How many octets a payload and its padding have at most.
-const LONGEST_PAYLOAD: usize = 1200;
 
 // How many datagrams a forward takes at most.
 const MOST_DATAGRAMS: usize = 32;
@@ -130,9 +129,9 @@ pub fn send_in(words: Option<&[u8]>) -> Option<ScriptLine<'_>>
     })
 }
 
-// Whether payload and padding have at most 1200 octets together.
+// Whether payload and padding aren't too long together.
 fn is_short(payload: &Octets<'_>, pad: Option<u8>) -> bool
-    ensures { result ≡ nat_le (length payload.now + unwrap_or pad 0) spec.longest_payload }
+    ensures { result ≡ nat_le (length payload.now + unwrap_or pad 0) longest_payload }
 {
     let pad = usize::from(pad.unwrap_or(0));
     payload.len() <= LONGEST_PAYLOAD && payload.len() + pad <= LONGEST_PAYLOAD

@@ -6,13 +6,11 @@ ghost use Rattle.perc_word.specs.Left.{words_left, value_taken};
 ghost use Rattle.perc_script_line.specs.Script as spec;
 
 use perc_base::Profile;
+use perc_rtp::LONGEST_RTCP;
 use perc_word::{Octets, next_octets, next_word};
 
 // How many octets a salt has.
 const SALT: usize = 12;
-
-// How many octets an RTCP packet of a line has at most.
-const LONGEST_RTCP: usize = 1200;
 
 // How many octets a datagram has at most.
 const LONGEST_DATAGRAM: usize = 1500;

@@ -121,7 +121,7 @@ impl Sender {
     fn check_key(&self, spi: u16, key: &[u8]) -> Result<u16, TakeFault>
         ensures answer { result ≡ take_answer self.now spi key.now }
         ensures epoch { IfOk result (λ epoch. epoch ≡ count_under spi self.now.keys) }
-        ensures room { IfOk result (λ _. length self.now.keys < 512) }
+        ensures room { OnOk result (length self.now.keys < 512) }
     {
         if is_taken(self.keys.as_slice(), key) {
             return Err(TakeFault::Repeated);

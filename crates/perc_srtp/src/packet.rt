@@ -1,5 +1,5 @@
 // RTP packets sealed and opened at a given index.
-ghost use Rattle.std.specs.Prelude.{◌≡◌, ℕ, ◌+◌, ◌^◌, ◌<◌, ◌≤◌, List, [], ◌++◌, length, take, drop, None, Some, Ok, IfOk, OnErr, IsErr, IsOk, MatchOption, MatchResult};
+ghost use Rattle.std.specs.Prelude.{◌≡◌, ℕ, ◌+◌, ◌^◌, ◌<◌, ◌≤◌, List, [], ◌++◌, length, take, drop, None, Some, Ok, IfOk, OnOk, OnErr, IsErr, IsOk, MatchOption, MatchResult};
 ghost use Rattle.perc_gcm.specs.Gcm.{sealed_text, unsealed_text};
 ghost use Rattle.perc_rtp.specs.Header.{Header, IsPacket, spelling};
 ghost use Rattle.perc_rtp.specs.Fields.{IsRtp};
@@ -70,7 +70,7 @@ fn unseal_body(
 ) -> Result<(), TagMismatch>
     requires few { length packet.old ≤ 65536 }
     requires cut { cut ≤ length packet.old }
-    ensures opened { IfOk result (λ _. (text : List ℕ)
+    ensures opened { OnOk result ((text : List ℕ)
         × (unsealed_text keys.now.key iv.now (take cut packet.old) (drop cut packet.old ++ tag.now) ≡ Some text)
         × (packet.new ≡ take cut packet.old ++ text)) }
     ensures forged { OnErr result (unsealed_text keys.now.key iv.now (take cut packet.old) (drop cut packet.old ++ tag.now) ≡ None) }

@@ -1,5 +1,5 @@
 // The two ends of an SRTCP stream.
-ghost use Rattle.std.specs.Prelude.{◌≡◌, ℕ, ◌+◌, ◌^◌, ◌<◌, ◌≤◌, ◌↔◌, List, [], ◌∷◌, ◌++◌, length, take, drop, None, Some, Ok, Err, IfOk, OnErr, IsOk, MatchResult};
+ghost use Rattle.std.specs.Prelude.{◌≡◌, ℕ, ◌+◌, ◌^◌, ◌<◌, ◌≤◌, ◌↔◌, List, [], ◌∷◌, ◌++◌, length, take, drop, None, Some, Ok, Err, IfOk, OnOk, OnErr, IsOk, MatchResult};
 ghost use Rattle.byteorder.specs.Endian.{big_bytes};
 ghost use Rattle.perc_rtp.specs.Carried.{rtcp_head};
 ghost use Rattle.perc_window.specs.Replay.{StandsFor};
@@ -83,7 +83,7 @@ impl RtcpTx {
         ensures spent { (result ≡ Err RtcpTxFault.Spent) ↔ ((len + 20 ≤ length packet.old) × (self.old ≡ 2 ^ 31)) }
         ensures sealed { IfOk result (λ n. (n ≡ len + 20)
             × (packet.new ≡ sealed_rtcp keys.now self.old (take len packet.old) ++ drop (len + 20) packet.old)) }
-        ensures next { IfOk result (λ _. self.new ≡ self.old + 1) }
+        ensures next { OnOk result (self.new ≡ self.old + 1) }
         ensures refused { OnErr result ((packet.new ≡ packet.old) × (self.new ≡ self.old)) }
     {
         // `len` isn't 0, since the head has 8 octets.
@@ -188,7 +188,7 @@ fn seal_packet(keys: &Keys, index: u32, packet: &mut [u8], len: usize)
 fn read_index(packet: &[u8]) -> Result<u32, RtcpFault>
     ensures value { result ≡ rtcp_index packet.now }
     ensures word { IfOk result (λ index. rtcp_word index ≡ index_word packet.now) }
-    ensures least { IfOk result (λ index. 28 ≤ length packet.now) }
+    ensures least { OnOk result (28 ≤ length packet.now) }
     ensures small { IfOk result (λ index. index < 2 ^ 31) }
 {
     if packet.len() < HEAD + END {

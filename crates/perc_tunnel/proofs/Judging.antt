@@ -1,5 +1,6 @@
 -- What octets are, from the tests on them.
-use Rattle.std.proofs.Common.{◌≡◌, ◌≢◌, ℕ, ◌+◌, ◌-◌, ◌*◌, ◌/◌, ◌%◌, ◌^◌, ◌<◌, ◌≤◌, ◌↔◌, IsTrue, inl, inr, Bool, true, false, eqb, leb, cond, ◌&&◌, List, [], ◌∷◌, ◌++◌, length, take, drop, get_or, Option, Some, None, refl, sym, ap, subst, ◌∙◌, arith}
+use Rattle.std.proofs.Common.{◌≡◌, ◌≢◌, ℕ, ◌+◌, ◌-◌, ◌*◌, ◌/◌, ◌%◌, ◌^◌, ◌<◌, ◌≤◌, ◌↔◌, IsTrue, inl, inr, Bool, true, false, eqb, leb, cond, ◌&&◌, List, [], ◌∷◌, ◌++◌, length, take, drop, get_or, Some, None, refl, sym, ap, subst, ◌∙◌, arith}
+use Rattle.std.specs.List.{find}
 use Rattle.std.proofs.lemmas.Bool.{eqb-true, leb-true, cases_eq, and_parts}
 use Rattle.std.proofs.lemmas.List.{get_or-drop, take_rest}
 use Rattle.std.proofs.lemmas.List.Elements.{All-take, All-get_or, All-from_get_or}
@@ -12,7 +13,7 @@ use Rattle.perc_tunnel.specs.declared.forms.Form.TheVariants.{Profiles, Version,
 use Rattle.perc_tunnel.specs.declared.forms.Standing.TheVariants.{Whole, Fault}
 use Rattle.perc_tunnel.specs.Message.{AreOctets}
 use Rattle.perc_tunnel.specs.Stream.{IsPart, IsKind, IsLength, BeginsLength, HasReason}
-use Rattle.perc_tunnel.specs.Forms.{kind_of, HasLength, form_at, HoldEach, fixed_in_body, Suits, IsStanding, IsShortKind}
+use Rattle.perc_tunnel.specs.Forms.{kind_of, Lengths, Exactly, AtLeast, OddFrom, IsAmong, is_among, lengths_of, HasLength, forms, form_at, HoldEach, fixed_in_body, Suits, IsStanding, IsShortKind}
 use Rattle.perc_tunnel.proofs.Suiting.{form_told, length_fits, length_is, length_form, kind_is, begins_suits, part_suits, suits_part, whole_front}
 
 -- ---- the form that tests tell
@@ -23,61 +24,25 @@ is_some x y e = cc
 not_some : {A : Type 0} (x : A) → None ≡ Some x → ⊥
 not_some x e = cc
 
-abbrev Tells : ℕ → ℕ → Option Form → Type 0
-Tells kind n None = Unit {0}
-Tells kind n (Some form) = (kind_of form ≡ kind) × (n < 2 ^ 16 → HasLength form n)
+among : (l : Lengths) (n : ℕ) → is_among l n ≡ true → n < 2 ^ 16 → IsAmong l n
+among (Exactly m) n is small = eqb-true n m is
+among (AtLeast m) n is small = (leb-true m n is, small)
+among (OddFrom m) n is small = let both = and_parts (eqb (n % 2) 1) (leb m n) is in (eqb-true (n % 2) 1 both.0, leb-true m n both.1, small)
 
-tells_if : (kind n : ℕ) (b : Bool) (x y : Option Form) → (b ≡ true → Tells kind n x) → (b ≡ false → Tells kind n y) → Tells kind n (cond b x y)
-tells_if kind n true x y h k = h refl
-tells_if kind n false x y h k = k refl
+found_first : (p : Form → Bool) (x form : Form) (xs : List Form) (b : Bool) → p x ≡ b → (find p xs ≡ Some form → p form ≡ true) → cond b (Some x) (find p xs) ≡ Some form
+    → p form ≡ true
+found_first p x form xs true is later e = ap p (sym (is_some x form e)) ∙ is
+found_first p x form xs false is later e = later e
 
-abbrev at5 : ℕ → ℕ → Option Form
-at5 kind n = cond (eqb kind 5) (cond (eqb n 16) (Some Ended) None) None
-
-abbrev at4 : ℕ → ℕ → Option Form
-at4 kind n = cond (eqb kind 4) (cond (leb 19 n) (Some Record) None) (at5 kind n)
-
-abbrev at3 : ℕ → ℕ → Option Form
-at3 kind n = cond (eqb kind 3) (cond (eqb n 79) (Some (Keys Aes128)) (cond (eqb n 111) (Some (Keys Aes256)) None)) (at4 kind n)
-
-abbrev at2 : ℕ → ℕ → Option Form
-at2 kind n = cond (eqb kind 2) (cond (eqb n 1) (Some Version) None) (at3 kind n)
-
-tells5 : (kind n : ℕ) → Tells kind n (at5 kind n)
-tells5 kind n =
-    tells_if kind n (eqb kind 5) (cond (eqb n 16) (Some Ended) None) None
-    (λ k. tells_if kind n (eqb n 16) (Some Ended) None (λ t. (sym (eqb-true kind 5 k), λ _. eqb-true n 16 t)) (λ _. tt)) (λ _. tt)
-
-tells4 : (kind n : ℕ) → Tells kind n (at4 kind n)
-tells4 kind n =
-    tells_if kind n (eqb kind 4) (cond (leb 19 n) (Some Record) None) (at5 kind n)
-    (λ k. tells_if kind n (leb 19 n) (Some Record) None (λ t. (sym (eqb-true kind 4 k), λ s. (leb-true 19 n t, s))) (λ _. tt)) (λ _. tells5 kind n)
-
-tells3 : (kind n : ℕ) → Tells kind n (at3 kind n)
-tells3 kind n =
-    tells_if kind n (eqb kind 3) (cond (eqb n 79) (Some (Keys Aes128)) (cond (eqb n 111) (Some (Keys Aes256)) None)) (at4 kind n)
-    (λ k. tells_if kind n (eqb n 79) (Some (Keys Aes128)) (cond (eqb n 111) (Some (Keys Aes256)) None)
-    (λ t. (sym (eqb-true kind 3 k), λ _. eqb-true n 79 t))
-    (λ _. tells_if kind n (eqb n 111) (Some (Keys Aes256)) None (λ t. (sym (eqb-true kind 3 k), λ _. eqb-true n 111 t)) (λ _. tt))) (λ _. tells4 kind n)
-
-tells2 : (kind n : ℕ) → Tells kind n (at2 kind n)
-tells2 kind n =
-    tells_if kind n (eqb kind 2) (cond (eqb n 1) (Some Version) None) (at3 kind n)
-    (λ k. tells_if kind n (eqb n 1) (Some Version) None (λ t. (sym (eqb-true kind 2 k), λ _. eqb-true n 1 t)) (λ _. tt)) (λ _. tells3 kind n)
-
-tells : (kind n : ℕ) → Tells kind n (form_at kind n)
-tells kind n =
-    tells_if kind n (eqb kind 1) (cond (eqb (n % 2) 1 && leb 5 n) (Some Profiles) None) (at2 kind n)
-    (λ k. tells_if kind n (eqb (n % 2) 1 && leb 5 n) (Some Profiles) None
-    (λ t. (
-      sym (eqb-true kind 1 k),
-      λ s. let both = and_parts (eqb (n % 2) 1) (leb 5 n) t in (eqb-true (n % 2) 1 both.0, leb-true 5 n both.1, s),
-    )) (λ _. tt)) (λ _. tells2 kind n)
+-- what is found passes
+found : (p : Form → Bool) (xs : List Form) (form : Form) → find p xs ≡ Some form → p form ≡ true
+found p [] form e = absurd (not_some form e)
+found p (x ∷ xs) form e = found_first p x form xs (p x) refl (found p xs form) e
 
 pub form_at_is : (kind n : ℕ) (form : Form) → form_at kind n ≡ Some form → n < 2 ^ 16 → (kind_of form ≡ kind) × HasLength form n
 form_at_is kind n form e small =
-    let t : Tells kind n (Some form) = subst (Tells kind n) e (tells kind n) in
-    (t.0, t.1 small)
+    let both = and_parts (eqb kind (kind_of form)) (is_among (lengths_of form) n) (found (λ (f : Form). eqb kind (kind_of f) && is_among (lengths_of f) n) forms form e) in
+    (sym (eqb-true kind (kind_of form) both.0), among (lengths_of form) n both.1 small)
 
 -- ---- what suits no form
 

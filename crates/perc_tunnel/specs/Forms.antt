@@ -1,5 +1,6 @@
 -- The forms of messages: which octets of a message are the same in each message of its form and length.
-use Rattle.std.specs.Prelude.{◌≡◌, ℕ, ◌+◌, ◌-◌, ◌*◌, ◌/◌, ◌%◌, ◌^◌, ◌<◌, ◌≤◌, ◌⊎◌, Bool, ◌&&◌, ◌==◌, nat_le, if◌then◌else◌, List, [], ◌∷◌, length, take, drop, Option, Some, None, slice_index}
+use Rattle.std.specs.Prelude.{◌≡◌, ℕ, ◌+◌, ◌-◌, ◌*◌, ◌/◌, ◌%◌, ◌^◌, ◌<◌, ◌≤◌, ◌⊎◌, Bool, ◌&&◌, ◌==◌, nat_le, List, [], ◌∷◌, length, take, drop, Option, slice_index}
+use Rattle.std.specs.List.{find}
 use Rattle.perc_base.specs.Profile.{profile_number, key_length}
 use Rattle.perc_base.specs.declared.profile.Profile.TheVariants.{Aes128, Aes256}
 use Rattle.perc_tunnel.specs.declared.forms.Form.{Form}
@@ -18,30 +19,41 @@ kind_of (Keys profile) = 3
 kind_of Record = 4
 kind_of Ended = 5
 
--- which lengths their bodies have
-abbrev pub HasLength : Form → ℕ → Type 0
-HasLength Profiles n = (n % 2 ≡ 1) × (5 ≤ n) × (n < 2 ^ 16)
-HasLength Version n = n ≡ 1
-HasLength (Keys profile) n = n ≡ 47 + 2 * key_length profile
-HasLength Record n = (19 ≤ n) × (n < 2 ^ 16)
-HasLength Ended n = n ≡ 16
+-- lengths of bodies, all below 2^16
+pub data Lengths : Type 0 where
+  Exactly : (n : ℕ) → Lengths
+  AtLeast : (n : ℕ) → Lengths
+  OddFrom : (n : ℕ) → Lengths
 
--- whether a message of this form can have so many octets, with its type and its length
-abbrev pub has_size : Form → ℕ → Bool
-has_size Profiles n = n % 2 == 0 && nat_le 8 n
-has_size Version n = n == 4
-has_size (Keys profile) n = n == 50 + 2 * key_length profile
-has_size Record n = nat_le 22 n
-has_size Ended n = n == 19
+-- which lengths the bodies of a form's messages have
+abbrev pub lengths_of : Form → Lengths
+lengths_of Profiles = OddFrom 5
+lengths_of Version = Exactly 1
+lengths_of (Keys profile) = Exactly (47 + 2 * key_length profile)
+lengths_of Record = AtLeast 19
+lengths_of Ended = Exactly 16
+
+abbrev pub IsAmong : Lengths → ℕ → Type 0
+IsAmong (Exactly m) n = n ≡ m
+IsAmong (AtLeast m) n = (m ≤ n) × (n < 2 ^ 16)
+IsAmong (OddFrom m) n = (n % 2 ≡ 1) × (m ≤ n) × (n < 2 ^ 16)
+
+-- the same of n below 2^16, as a test
+abbrev pub is_among : Lengths → ℕ → Bool
+is_among (Exactly m) n = n == m
+is_among (AtLeast m) n = nat_le m n
+is_among (OddFrom m) n = n % 2 == 1 && nat_le m n
+
+-- A message of this form can have a body of so many octets.
+abbrev pub HasLength : Form → ℕ → Type 0
+HasLength form n = IsAmong (lengths_of form) n
+
+abbrev pub forms : List Form
+forms = Profiles ∷ Version ∷ Keys Aes128 ∷ Keys Aes256 ∷ Record ∷ Ended ∷ []
 
 -- the form of the messages of this type and length
 abbrev pub form_at : ℕ → ℕ → Option Form
-form_at kind n =
-    if kind == 1 then (if n % 2 == 1 && nat_le 5 n then Some Profiles else None)
-    else (if kind == 2 then (if n == 1 then Some Version else None)
-    else (if kind == 3 then (if n == 79 then Some (Keys Aes128) else (if n == 111 then Some (Keys Aes256) else None))
-    else (if kind == 4 then (if nat_le 19 n then Some Record else None)
-    else (if kind == 5 then (if n == 16 then Some Ended else None) else None))))
+form_at kind n = find (λ form. kind == kind_of form && is_among (lengths_of form) n) forms
 
 -- This octet stands at the offset, once that is held.
 abbrev pub Holds : List ℕ → ℕ → ℕ → Type 0

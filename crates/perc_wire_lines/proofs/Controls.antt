@@ -12,6 +12,7 @@ use Rattle.perc_member.specs.declared.member.Member as code_member
 use Rattle.perc_outgoing.specs.Sending.{after_rtcp, plain_fault, rtcp_send_fault, sent_rtcp}
 use Rattle.perc_outgoing.specs.declared.fault.RtcpSendFault.{RtcpSendFault}
 use Rattle.perc_report_line.specs.Report.{WireUp}
+use Rattle.perc_rtp.specs.Carried.{longest_rtcp}
 use Rattle.perc_rtp.specs.Header.{version}
 use Rattle.perc_run.specs.Control.{control_by, control_turn, rtcp_turn, with_control}
 use Rattle.perc_run.specs.Hostile.{added}
@@ -31,15 +32,15 @@ use Rattle.perc_wire_lines.proofs.Pushing.{added_goes}
 
 -- A packet of the script's form has no fault.
 no_fault : (plain : List ℕ) → is_rtcp plain ≡ true → plain_fault plain ≡ None
-no_fault plain is = parts (nat_le 8 (length plain)) (nat_le (length plain) 1200) (version plain == 2) (nat_le 192 (slice_index plain 1)) (nat_le (slice_index plain 1) 223) refl refl refl is
+no_fault plain is = parts (nat_le 8 (length plain)) (nat_le (length plain) longest_rtcp) (version plain == 2) (nat_le 192 (slice_index plain 1)) (nat_le (slice_index plain 1) 223) refl refl refl is
   where
-    parts : (a b v x y : Bool) → nat_le 8 (length plain) ≡ a → nat_le (length plain) 1200 ≡ b → (version plain == 2) ≡ v → (a && b && v && x && y) ≡ true → plain_fault plain ≡ None
+    parts : (a b v x y : Bool) → nat_le 8 (length plain) ≡ a → nat_le (length plain) longest_rtcp ≡ b → (version plain == 2) ≡ v → (a && b && v && x && y) ≡ true → plain_fault plain ≡ None
     parts false b v x y e f g h = absurd (cc)
     parts true false v x y e f g h = absurd (cc)
     parts true true false x y e f g h = absurd (cc)
     parts true true true x y e f g h =
         let long_enough : nat_lt (length plain) 8 ≡ false = grind (arith, nat_tests) in
-        let short_enough : nat_lt 1200 (length plain) ≡ false = grind (arith, nat_tests) in
+        let short_enough : nat_lt longest_rtcp (length plain) ≡ false = grind (arith, nat_tests) in
         rw (long_enough, g, short_enough) refl
 
 sends : (e : Endpoint) (plain : List ℕ) → is_rtcp plain ≡ true → e.sending.rtcp < 2 ^ 31 → rtcp_send_fault e.sending plain ≡ None

@@ -13,12 +13,10 @@ use crate::putting::{Wire, is_full, put};
 use perc_conference_state::{Conference, Stop, Told};
 use perc_endpoint::Endpoint;
 use perc_member::Datagram;
+use perc_rtp::LONGEST_RTCP;
 use perc_script_line::Reason;
 use perc_word::{Name, Octets};
 use std::alloc::{AllocError, Global};
-
-// How many octets a control packet has at most before its seal.
-const LONGEST_CONTROL: usize = 1200;
 
 /// Sends a member's next control packet: 8 to 1200 octets, of version 2.
 pub fn rtcp(
@@ -52,7 +50,7 @@ fn sealed(
     requires index { MaySeal endpoint.old }
     ensures { (e : spec.Endpoint) → StandsFor endpoint.old e → IfOk result (Seals e plain.now endpoint.new) }
 {
-    let mut room = [0; LONGEST_CONTROL];
+    let mut room = [0; LONGEST_RTCP];
     let packet = &mut room[..plain.len()];
     plain.write(packet);
     let mut octets = [0; 1500];

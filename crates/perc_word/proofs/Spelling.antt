@@ -13,7 +13,7 @@ use Rattle.byteorder.specs.Endian.{big_bytes, big_number}
 use Rattle.hex.specs.Hex.{IsBytes, decode_of, encode_lower, encode_with, lower_digits}
 use Rattle.hex.specs.declared.error.FromHexError.{FromHexError}
 use Rattle.hex.proofs.HexLemmas.{decode_of-ok, decode_of-encode_lower, length-encode_with}
-use Rattle.perc_word.specs.Word.{is_upper, is_alphanumeric, is_name, IsName, name_in, name_text, number_in, value_onto, are_octets, AreOctets, Also, only, text_in, marker_in, marker_text, octets_in, spelled_by, ssrc_in, ssrc_text, payload_in, payload_text, dash}
+use Rattle.perc_word.specs.Word.{is_upper, is_alphanumeric, is_name, IsName, name_in, name_text, number_in, value_onto, are_octets, AreSomeOctets, Also, only, text_in, marker_in, marker_text, octets_in, spelled_by, ssrc_in, ssrc_text, payload_in, payload_text, dash}
 use Rattle.perc_word.specs.Digits.{is_digit, is_lower_digit}
 use Rattle.perc_word.proofs.Numerals.{own, decimal-numeral, number_some}
 use Rattle.perc_word.proofs.Spelled.{encode-lower}
@@ -207,7 +207,7 @@ unfolding encode_with
 encode-empty [] word e some = absurd (some (ap length e))
 encode-empty (x ∷ xs) word e some = omega arith
 
-octets-back : (word octets : List ℕ) → octets_in word ≡ Some octets → (word ≡ encode_lower octets) × AreOctets octets
+octets-back : (word octets : List ℕ) → octets_in word ≡ Some octets → (word ≡ encode_lower octets) × AreSomeOctets octets
 unfolding octets_in
 octets-back word octets h =
     elim (chosen (length word == 0) None (spelled_by word (decode_of word)) (Some octets) h) [
@@ -217,7 +217,7 @@ octets-back word octets h =
           (r.0, record { some = encode-empty octets word r.0 (eqb-false _ 0 some.0); octets = octets_from octets r.1 })
     ]
 
-octets-again : (octets : List ℕ) → AreOctets octets → octets_in (encode_lower octets) ≡ Some octets
+octets-again : (octets : List ℕ) → AreSomeOctets octets → octets_in (encode_lower octets) ≡ Some octets
 unfolding octets_in
 octets-again octets h =
     let len = length-encode_with lower_digits octets in
@@ -231,7 +231,7 @@ encode-inside octets h = all_weaker is_lower_digit _ lower_digit-inside (encode_
 encode-free : (octets : List ℕ) → are_octets octets ≡ true → is_free 32 (encode_lower octets) ≡ true
 encode-free octets h = inside-free 32 (omega arith) (encode_lower octets) (encode-inside octets h)
 
-pub octets_spelling : Spelling octets_in encode_lower AreOctets
+pub octets_spelling : Spelling octets_in encode_lower AreSomeOctets
 octets_spelling = record {
   back = octets-back;
   again = octets-again;
@@ -303,7 +303,7 @@ ssrc-no_comma ssrc = inside-free 44 (omega arith) (ssrc_text ssrc) (encode-insid
 abbrev pub ArePayload : List ℕ → Type 0
 ArePayload payload = are_octets payload ≡ true
 
-payload_spelled : (word payload : List ℕ) → word ≡ encode_lower payload → AreOctets payload → word ≡ payload_text payload
+payload_spelled : (word payload : List ℕ) → word ≡ encode_lower payload → AreSomeOctets payload → word ≡ payload_text payload
 payload_spelled word [] e h = let some = h.some in absurd (omega arith)
 payload_spelled word (x ∷ xs) e h = e
 

@@ -164,7 +164,7 @@ abbrev pub are_octets : List ℕ → Bool
 are_octets octets = list_all (λ x. nat_lt x 256) octets
 
 -- octets, one or more
-pub record AreOctets (xs : List ℕ) : Type 0 where
+pub record AreSomeOctets (xs : List ℕ) : Type 0 where
   pub some : 1 ≤ length xs
   pub octets : IsTrue (are_octets xs)
 

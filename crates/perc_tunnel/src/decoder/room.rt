@@ -1,6 +1,6 @@
 // The room in which a decoder holds octets.
-ghost use Rattle.std.specs.Prelude.{◌≡◌, ◌+◌, ◌-◌, ◌^◌, ◌<◌, ◌≤◌, length, take, drop, IfOk, IsTrue, vec_len};
-ghost use Rattle.perc_tunnel.specs.Forms.{has_size, message_at};
+ghost use Rattle.std.specs.Prelude.{◌≡◌, ◌+◌, ◌-◌, ◌^◌, ◌<◌, ◌≤◌, length, take, drop, IfOk, vec_len};
+ghost use Rattle.perc_tunnel.specs.Forms.{HasLength, message_at};
 ghost use Rattle.perc_tunnel.specs.Told.{content_of};
 ghost use Rattle.perc_tunnel.specs.Decoding.{fed, fresh, taken};
 
@@ -79,7 +79,7 @@ impl Room {
 
     /// The message that was given last, of this form. A list of profiles and a record stay where they are.
     pub(super) fn message(&self, form: Form) -> Message<'_>
-        requires size { IsTrue (has_size form (length (message_in self.now))) }
+        requires size { HasLength form (length (message_in self.now) - 3) }
         requires keys { KnowsKeys self.now.keys form (message_in self.now) }
         ensures { content_of result ≡ message_at form (message_in self.now) }
     {
@@ -197,7 +197,7 @@ impl Room {
 
     /// Keeps the keys of the message that was given last, where it has any.
     fn keep_keys(&mut self, form: Form)
-        requires size { IsTrue (has_size form (length (message_in self.old))) }
+        requires size { HasLength form (length (message_in self.old) - 3) }
         ensures keys { KnowsKeys self.new.keys form (message_in self.old) }
         ensures message { message_in self.new ≡ message_in self.old }
         ensures decoding { decoding_in self.new ≡ decoding_in self.old }
