@@ -8,7 +8,7 @@ use Rattle.std.proofs.lemmas.List.{ext_get_or, length-map, get_or-map, get_or_pa
 use Rattle.std.proofs.lemmas.List.FromFn.{fill_by_all, get_or-map-range_with_len}
 use Rattle.perc_aes.specs.Field.{add, product}
 use Rattle.perc_aes.specs.Cipher.{cell, state_of, sub_octet, sub_bytes, shift_rows, mix_matrix, row_times_column, mix_columns, add_round_key, word_at, IsBlock}
-use Rattle.perc_aes.specs.Octets.{AreOctets}
+use Rattle.perc_octets.specs.Octets.{AreOctets}
 use Rattle.perc_aes.specs.Inverse.{inverse_mix_columns, inverse_shift_rows, inverse_sub_bytes, inverse_sub_octet, unmix_matrix}
 use Rattle.perc_aes.specs.Words.{octets_of, octets_of_word, octets_of_words}
 use Rattle.perc_aes.specs.declared.state.State.{State}

@@ -7,7 +7,7 @@ use Rattle.perc_aes.specs.Field.{add, times_x, power_of_x}
 use Rattle.perc_aes.specs.Cipher.{IsBlock, IsKey, add_round_key, add_words, aes, key_words, last_round, mix_columns, next_word, rotate_word, round_constant, round_key, rounds, schedule, schedule_core, shift_rows, state_after, sub_bytes, sub_octet, sub_word, word_at}
 use Rattle.perc_aes.specs.Inverse.{inverse_mix_columns, inverse_shift_rows, inverse_sub_bytes}
 use Rattle.perc_aes.specs.KeySchedule.{IsSchedule}
-use Rattle.perc_aes.specs.Octets.{AreOctets}
+use Rattle.perc_octets.specs.Octets.{AreOctets}
 use Rattle.perc_aes.specs.Words.{octets_of, octets_of_word, octets_of_words, state_at}
 use Rattle.perc_aes.specs.declared.state.State.{State}
 use Rattle.perc_aes.proofs.Octets.{below_256}

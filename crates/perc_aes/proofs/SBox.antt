@@ -7,7 +7,7 @@ use Rattle.std.specs.Int.{w32, from_be_bytes}
 use Rattle.perc_aes.specs.Cipher.{sub_octet}
 use Rattle.perc_aes.specs.Inverse.{inverse_sub_octet}
 use Rattle.perc_aes.specs.Words.{multiples}
-use Rattle.perc_aes.specs.declared.tables.TheConstants.{S_BOX, INVERSE_S_BOX, MIXED, UNMIXED, ROUND_CONSTANTS}
+use Rattle.perc_aes.specs.declared.tables.TheConstants.{S_BOX, INVERSE_S_BOX, MIXED, MIXED_ROW_1, MIXED_ROW_2, MIXED_ROW_3, UNMIXED, INVERSE_COLUMNS, ROUND_CONSTANTS}
 use Rattle.perc_aes.proofs.Octets.{same_octets, below_256}
 
 -- the whole table, computed
@@ -58,10 +58,33 @@ mixed_at b in_range =
     same_octets (λ b. get_or MIXED b 0) (λ b. from_be_bytes w32 (multiples (2 ∷ 1 ∷ 1 ∷ 3 ∷ []) (get_or S_BOX b 0))) refl b in_range
     ∙ ap (λ (v : ℕ). from_be_bytes w32 (multiples (2 ∷ 1 ∷ 1 ∷ 3 ∷ []) v)) (s_box_at b in_range)
 
+pub mixed_row_1_at : (b : ℕ) → b < 256 → get_or MIXED_ROW_1 b 0 ≡ from_be_bytes w32 (multiples (3 ∷ 2 ∷ 1 ∷ 1 ∷ []) (sub_octet b))
+unfolding product product_below
+mixed_row_1_at b in_range =
+    same_octets (λ b. get_or MIXED_ROW_1 b 0) (λ b. from_be_bytes w32 (multiples (3 ∷ 2 ∷ 1 ∷ 1 ∷ []) (get_or S_BOX b 0))) refl b in_range
+    ∙ ap (λ (v : ℕ). from_be_bytes w32 (multiples (3 ∷ 2 ∷ 1 ∷ 1 ∷ []) v)) (s_box_at b in_range)
+
+pub mixed_row_2_at : (b : ℕ) → b < 256 → get_or MIXED_ROW_2 b 0 ≡ from_be_bytes w32 (multiples (1 ∷ 3 ∷ 2 ∷ 1 ∷ []) (sub_octet b))
+unfolding product product_below
+mixed_row_2_at b in_range =
+    same_octets (λ b. get_or MIXED_ROW_2 b 0) (λ b. from_be_bytes w32 (multiples (1 ∷ 3 ∷ 2 ∷ 1 ∷ []) (get_or S_BOX b 0))) refl b in_range
+    ∙ ap (λ (v : ℕ). from_be_bytes w32 (multiples (1 ∷ 3 ∷ 2 ∷ 1 ∷ []) v)) (s_box_at b in_range)
+
+pub mixed_row_3_at : (b : ℕ) → b < 256 → get_or MIXED_ROW_3 b 0 ≡ from_be_bytes w32 (multiples (1 ∷ 1 ∷ 3 ∷ 2 ∷ []) (sub_octet b))
+unfolding product product_below
+mixed_row_3_at b in_range =
+    same_octets (λ b. get_or MIXED_ROW_3 b 0) (λ b. from_be_bytes w32 (multiples (1 ∷ 1 ∷ 3 ∷ 2 ∷ []) (get_or S_BOX b 0))) refl b in_range
+    ∙ ap (λ (v : ℕ). from_be_bytes w32 (multiples (1 ∷ 1 ∷ 3 ∷ 2 ∷ []) v)) (s_box_at b in_range)
+
 pub unmixed_at : (b : ℕ) → b < 256 → get_or UNMIXED b 0 ≡ from_be_bytes w32 (multiples (14 ∷ 9 ∷ 13 ∷ 11 ∷ []) (inverse_sub_octet b))
 unfolding product product_below inverse_sub_octet
 unmixed_at b in_range =
     same_octets (λ b. get_or UNMIXED b 0) (λ b. from_be_bytes w32 (multiples (14 ∷ 9 ∷ 13 ∷ 11 ∷ []) (get_or INVERSE_S_BOX b 0))) refl b in_range
+
+pub inverse_column_at : (b : ℕ) → b < 256 → get_or INVERSE_COLUMNS b 0 ≡ from_be_bytes w32 (multiples (14 ∷ 9 ∷ 13 ∷ 11 ∷ []) b)
+unfolding product product_below
+inverse_column_at b in_range =
+    same_octets (λ b. get_or INVERSE_COLUMNS b 0) (λ b. from_be_bytes w32 (multiples (14 ∷ 9 ∷ 13 ∷ 11 ∷ []) b)) refl b in_range
 
 -- each constant
 pub round_constant_at : (i : ℕ) → i < 10 → get_or ROUND_CONSTANTS i 0 ≡ power_of_x i

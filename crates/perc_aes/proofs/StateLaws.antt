@@ -4,11 +4,10 @@ use Rattle.std.specs.Int.{w32, to_be_bytes, from_be_bytes, rotate_left, rotate_r
 use Rattle.std.specs.Int.Bits.{xor_zero_r, xor_assoc}
 use Rattle.std.proofs.lemmas.Nat.{xor_shr, xor_mod, or_comm, or_shifted, and_mask}
 use Rattle.perc_aes.specs.Field.{total}
-use Rattle.perc_aes.specs.Cipher.{add_round_key, add_words, mix_columns, mix_matrix, rotate_word, shift_rows, sub_bytes, sub_octet, sub_word, word_at, word_from}
-use Rattle.perc_aes.specs.Words.{diagonal, octets_of, octets_of_word, octets_of_words, times_column, turned_sum}
+use Rattle.perc_aes.specs.Cipher.{add_round_key, add_words, mix_columns, mix_matrix, rotate_word, shift_rows, sub_bytes, sub_octet, word_at, word_from}
+use Rattle.perc_aes.specs.Words.{diagonal, octets_of, octets_of_word, octets_of_words, sum_of_four, times_column, turned_sum}
 use Rattle.perc_aes.specs.Inverse.{inverse_mix_columns, inverse_shift_rows, inverse_sub_bytes, inverse_sub_octet, unmix_matrix}
 use Rattle.perc_aes.specs.declared.state.State.{State}
-use Rattle.perc_aes.proofs.SBox.{inverse_sub}
 
 -- four octets, each by an equation
 pub same_four : (a b c d a' b' c' d' : ℕ) → a ≡ a' → b ≡ b' → c ≡ c' → d ≡ d' → (a ∷ b ∷ c ∷ d ∷ []) ≡ (a' ∷ b' ∷ c' ∷ d' ∷ [])
@@ -107,6 +106,11 @@ add_three p q r s =
     λ k. add_left (get_or p k 0) (get_or q k 0) (get_or r k 0) (get_or s k 0) in
     same_four _ _ _ _ _ _ _ _ (at 0) (at 1) (at 2) (at 3)
 
+pub sum_of_four_is : (p q r s : ℕ) → octets_of_word (bit_xor (bit_xor (bit_xor p q) r) s) ≡ sum_of_four (octets_of_word p) (octets_of_word q) (octets_of_word r) (octets_of_word s)
+sum_of_four_is p q r s =
+    sum_of_words p q r s (octets_of_word q) (octets_of_word r) (octets_of_word s) refl refl refl
+    ∙ add_three (octets_of_word p) (octets_of_word q) (octets_of_word r) (octets_of_word s)
+
 pub turned_sum_is : (p q r s : ℕ) → p < 2 ^ 32 → q < 2 ^ 32 → r < 2 ^ 32 → s < 2 ^ 32 → octets_of_word (bit_xor (bit_xor (bit_xor p (rotate_right w32 q 8)) (rotate_right w32 r 16)) (rotate_right w32 s 24)) ≡ turned_sum (octets_of_word p) (octets_of_word q) (octets_of_word r) (octets_of_word s)
 turned_sum_is p q r s in_p in_q in_r in_s =
     sum_of_words p (rotate_right w32 q 8) (rotate_right w32 r 16) (rotate_right w32 s 24) (turned (octets_of_word q) 3) (turned (octets_of_word r) 2) (turned (octets_of_word s) 1) (turned_8 q in_q) (turned_16 r in_r) (turned_24 s in_s)
@@ -155,10 +159,3 @@ AreOctets-word n (suc zero) = omega arith
 AreOctets-word n (suc (suc zero)) = omega arith
 AreOctets-word n (suc (suc (suc zero))) = omega arith
 AreOctets-word n (suc (suc (suc (suc k)))) = omega arith
-
--- what undoes the S-box, at each octet that the S-box made of a word
-pub unsubbed : (n m : ℕ) → octets_of_word m ≡ sub_word (octets_of_word n) → map inverse_sub_octet (diagonal m m m m) ≡ octets_of_word n
-unfolding octets_of_word
-unsubbed n m m_is =
-    ap (λ (v : List ℕ). map inverse_sub_octet v) m_is
-    ∙ same_four _ _ _ _ _ _ _ _ (inverse_sub _ (AreOctets-word n 0)) (inverse_sub _ (AreOctets-word n 1)) (inverse_sub _ (AreOctets-word n 2)) (inverse_sub _ (AreOctets-word n 3))

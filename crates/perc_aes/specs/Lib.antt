@@ -2,5 +2,4 @@ pub mod Cipher
 pub mod Field
 pub mod Inverse
 pub mod KeySchedule
-pub mod Octets
 pub mod Words

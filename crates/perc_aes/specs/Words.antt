@@ -28,6 +28,10 @@ state_at words place =
 abbrev pub multiples : List ℕ → ℕ → List ℕ
 multiples factors octet = map (λ k. product k octet) factors
 
+-- the sum of four words
+abbrev pub sum_of_four : List ℕ → List ℕ → List ℕ → List ℕ → List ℕ
+sum_of_four p q r s = word_from (λ k. total (slice_index p k ∷ slice_index q k ∷ slice_index r k ∷ slice_index s k ∷ []))
+
 -- the sum of four words, each turned right by one octet more than the one before
 abbrev pub turned_sum : List ℕ → List ℕ → List ℕ → List ℕ → List ℕ
 turned_sum p q r s =

@@ -2,10 +2,13 @@
 ghost use Rattle.std.specs.Prelude.{◌≡◌, map};
 ghost use Rattle.perc_aes.specs.Cipher.{add_round_key, mix_columns, mix_matrix, shift_rows, sub_bytes, sub_octet, sub_word};
 ghost use Rattle.perc_aes.specs.Inverse.{inverse_mix_columns, inverse_shift_rows, inverse_sub_bytes, inverse_sub_octet, unmix_matrix};
-ghost use Rattle.perc_aes.specs.Words.{diagonal, octets_of, octets_of_word, times_column, turned_sum};
+ghost use Rattle.perc_aes.specs.Words.{diagonal, octets_of, octets_of_word, sum_of_four, times_column, turned_sum};
 
 use crate::state::{State, octet};
-use crate::tables::{inverse_sub_octet, mixed, sub_octet, unmixed};
+use crate::tables::{
+    inverse_column, inverse_sub_octet, mixed, mixed_row_1, mixed_row_2, mixed_row_3, sub_octet,
+    unmixed,
+};
 
 // The sum of four words, each turned right by one octet more than the one before.
 #[tactic(auto, using(crate::proofs::StateLaws::turned_sum_is))]
@@ -15,15 +18,23 @@ fn turned_sum(p: u32, q: u32, r: u32, s: u32) -> u32
     p ^ q.rotate_right(8) ^ r.rotate_right(16) ^ s.rotate_right(24)
 }
 
+// The sum of four words.
+#[tactic(auto, using(crate::proofs::StateLaws::sum_of_four_is))]
+fn sum_of_four(p: u32, q: u32, r: u32, s: u32) -> u32
+    ensures { octets_of_word result ≡ sum_of_four (octets_of_word p) (octets_of_word q) (octets_of_word r) (octets_of_word s) }
+{
+    p ^ q ^ r ^ s
+}
+
 // A column after SubBytes, ShiftRows and MixColumns, from the columns that its octets come from, its own first.
 fn mixed_column(a: u32, b: u32, c: u32, d: u32) -> u32
     ensures { octets_of_word result ≡ times_column mix_matrix (map sub_octet (diagonal a b c d)) }
 {
-    turned_sum(
+    sum_of_four(
         mixed(octet(a, 0)),
-        mixed(octet(b, 1)),
-        mixed(octet(c, 2)),
-        mixed(octet(d, 3)),
+        mixed_row_1(octet(b, 1)),
+        mixed_row_2(octet(c, 2)),
+        mixed_row_3(octet(d, 3)),
     )
 }
 
@@ -100,12 +111,16 @@ fn inverse_sub_column(a: u32, b: u32, c: u32, d: u32) -> u32
     ])
 }
 
-// InvMixColumns of a word. The table undoes the S-box too, so that is done first.
+// InvMixColumns of a word.
 fn unmixed_word(word: u32) -> u32
     ensures { octets_of_word result ≡ times_column unmix_matrix (octets_of_word word) }
 {
-    let word = sub_word(word);
-    unmixed_column(word, word, word, word)
+    turned_sum(
+        inverse_column(octet(word, 0)),
+        inverse_column(octet(word, 1)),
+        inverse_column(octet(word, 2)),
+        inverse_column(octet(word, 3)),
+    )
 }
 
 // InvMixColumns of a round key.

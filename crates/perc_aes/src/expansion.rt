@@ -46,8 +46,22 @@ pub(crate) fn copy_key(words: &mut [u32; SCHEDULE_WORDS], key: &[u8])
     }
 }
 
-// Writes the schedule of the key that is the first key_words words behind it.
+// Writes the schedule of the key that is the first key_words words behind it. Where their number is a constant, nothing is divided.
 pub(crate) fn expand(words: &mut [u32; SCHEDULE_WORDS], key_words: usize)
+    requires { IsKeyLength (4 * key_words) }
+    ensures schedule { IsSchedule words.new key_words }
+    ensures key { take key_words words.new ≡ take key_words words.old }
+{
+    match key_words {
+        4 => expand_by(words, 4),
+        8 => expand_by(words, 8),
+        _ => expand_by(words, key_words),
+    }
+}
+
+// The same for any number of words.
+#[inline(always)]
+fn expand_by(words: &mut [u32; SCHEDULE_WORDS], key_words: usize)
     requires { IsKeyLength (4 * key_words) }
     ensures schedule { IsSchedule words.new key_words }
     ensures key { take key_words words.new ≡ take key_words words.old }

@@ -6,6 +6,13 @@ use std::alloc::{AllocError, Global};
 use std::process::Abort;
 use std::test::Fail;
 
+mod generated;
+mod keys;
+mod scripts;
+mod table;
+mod takings;
+mod wires;
+
 const OPENING: &str =
     "conference 0009\nekt 01010101010101010101010101010101 020202020202020202020202\njoin Ann 11111111 1000 c1c1c1c1c1c1c1c1c1c1c1c1c1c1c1c1c1c1c1c1c1c1c1c1c1c1c1c1 c2c2c2c2c2c2c2c2c2c2c2c2c2c2c2c2c2c2c2c2c2c2c2c2c2c2c2c2 d1d1d1d1d1d1d1d1d1d1d1d1d1d1d1d1\njoin Bob 22222222 2000 c3c3c3c3c3c3c3c3c3c3c3c3c3c3c3c3c3c3c3c3c3c3c3c3c3c3c3c3 c4c4c4c4c4c4c4c4c4c4c4c4c4c4c4c4c4c4c4c4c4c4c4c4c4c4c4c4 d2d2d2d2d2d2d2d2d2d2d2d2d2d2d2d2\n";
 

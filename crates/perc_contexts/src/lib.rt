@@ -216,6 +216,3 @@ fn retire(live: &mut ArrayVec<u16, LIVE_SPIS>) -> Option<u16>
         None
     }
 }
-
-#[cfg(test)]
-mod tests;

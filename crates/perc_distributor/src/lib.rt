@@ -11,8 +11,6 @@ mod session;
 mod slot;
 mod streams;
 mod table;
-#[cfg(test)]
-mod tests;
 mod worker;
 
 pub use fault::{ForwardFault, InboundFault};

@@ -5,8 +5,6 @@ mod ends;
 pub mod laws;
 mod parts;
 mod relaying;
-#[cfg(test)]
-mod tests;
 
 pub use ends::{InnerFault, inner_unseal, seal_double};
 pub use relaying::{RelayFault, relay, relayed_len, write_relayed};

@@ -13,7 +13,9 @@ use Rattle.perc_ekt.specs.declared.field.FieldFault.{FieldFault}
 use Rattle.perc_ekt.specs.declared.field.FieldFault.TheVariants.{NoField, Type01, Length}
 use Rattle.perc_ekt.specs.Field.{Field, Short, Full, Extension, IsField, IsDatagram, announced, field_at, field_fault, field_of, is_wrong_length, last_octet, parted, spelling, told_of, unless_fault}
 use Rattle.perc_ekt.specs.Reading.{length_at, told_at}
-use Rattle.perc_ekt.proofs.Octets.{AreOctets, AreOctets-drop, octet_of, two_spelled, piece, piece_as, last_piece, behind, last_number}
+use Rattle.perc_octets.specs.Octets.{AreOctets}
+use Rattle.perc_octets.proofs.Octets.{AreOctets-drop}
+use Rattle.perc_ekt.proofs.Octets.{two_spelled, piece, piece_as, last_piece, behind, last_number}
 
 -- ---- from octets to a field
 
@@ -183,7 +185,7 @@ full_found d n fits last t =
 
 extension_found : (d : List ℕ) (kind n : ℕ) → AreOctets d → last_octet d ≡ kind → 3 ≤ kind → Passes d kind n → IsDatagram (take (length d - n) d) (field_at d kind n) d
 extension_found d kind n fits last other t =
-    let octet : kind < 256 = omega (arith, last, octet_of d fits (length d - 1)) in
+    let octet : kind < 256 = omega (arith, last, fits (length d - 1)) in
     let is_two : eqb kind 2 ≡ false = grind (arith, nat_tests) in
     let least : 3 ≤ n = extension_length kind n is_two t.right in
     subst (λ (f : Field). IsDatagram (take (length d - n) d) f d) (sym (other_at d kind n is_two)) (extension_in d n kind fits t.is last other octet least t.within)

@@ -16,7 +16,9 @@ use Rattle.perc_ekt.specs.Key.{HasSize, IsPlainText, WrappedKey, key_in, key_or_
 use Rattle.perc_ekt.specs.declared.key.KeyFault.{KeyFault}
 use Rattle.perc_ekt.specs.declared.key.KeyFault.TheVariants.{Unwrap, Plain}
 use Rattle.perc_ekt.specs.declared.key.Wrapped.{Wrapped}
-use Rattle.perc_ekt.proofs.Octets.{AreOctets, AreOctets-append, AreOctets-bytes, AreOctets-cons, AreOctets-drop, AreOctets-take, octet_of, octets_of, four_spelled, piece, piece_as}
+use Rattle.perc_octets.specs.Octets.{AreOctets}
+use Rattle.perc_octets.proofs.Octets.{AreOctets-append, AreOctets-cons, AreOctets-drop, AreOctets-take}
+use Rattle.perc_ekt.proofs.Octets.{AreOctets-bytes, four_spelled, piece, piece_as}
 
 plain-regrouped : (n : ℕ) (key s r : List ℕ) → n ∷ ((key ++ s) ++ r) ≡ n ∷ (key ++ (s ++ r))
 plain-regrouped n key s r = ap (λ (xs : List ℕ). n ∷ xs) (append_assoc key s r)
@@ -206,8 +208,8 @@ opened_none ekt octets size e = ap (key_or_fault size) e
 pub opens : (ekt : List ℕ) (size : ℕ) (k : WrappedKey) → IsKey ekt → size < 256 → HasSize size k → opened_key ekt size (wrapped_key ekt k) ≡ Ok k
 opens ekt size k is few fits =
     let long = plain-length k.key k.ssrc k.roc in
-    let octets : AreOctets (text_of k) = plain-octets k.key k.ssrc k.roc (omega (arith, fits.len)) (octets_of k.key fits.octets) in
-    let whole : IsWrapped ekt (text_of k) (wrapped_key ekt k) = record { some = omega arith; few = omega (arith, fits.len); in_range = octet_of (text_of k) octets; value = refl } in
+    let octets : AreOctets (text_of k) = plain-octets k.key k.ssrc k.roc (omega (arith, fits.len)) fits.octets in
+    let whole : IsWrapped ekt (text_of k) (wrapped_key ekt k) = record { some = omega arith; few = omega (arith, fits.len); in_range = octets; value = refl } in
     opened_some ekt (wrapped_key ekt k) (text_of k) size k ((unwrapped_law ekt (wrapped_key ekt k) (text_of k) is).1 whole) (plain_read size (text_of k) k (fits.len, fits.ssrc, fits.roc, refl))
 
 option_cases : {A : Type 0} (o : Option A) → (o ≡ None) ⊎ ((x : A) × (o ≡ Some x))
@@ -264,13 +266,13 @@ pub opens_only : (ekt : List ℕ) (size : ℕ) (octets : List ℕ) (k : WrappedK
 opens_only ekt size octets k e =
     let o = has_opened ekt octets size k e in
     let w = unwrapped_is ekt octets o.plain o.found in
-    let fits : AreOctets o.plain = octets_of o.plain w.in_range in
+    let fits : AreOctets o.plain = w.in_range in
     let text = (key_in_is size o.plain k fits).0 o.read in
     let read = key_was_read size o.plain k o.read in
     let key : take size (drop 1 o.plain) ≡ k.key = ap (λ (j : WrappedKey). j.key) read.is in (
       record {
         len = text.0;
-        octets = octet_of k.key (subst AreOctets key (AreOctets-take size (drop 1 o.plain) (AreOctets-drop 1 o.plain fits)));
+        octets = subst AreOctets key (AreOctets-take size (drop 1 o.plain) (AreOctets-drop 1 o.plain fits));
         ssrc = text.1;
         roc = text.2;
       },

@@ -3,44 +3,9 @@ use Rattle.std.proofs.Common.{◌≡◌, ℕ, zero, suc, ◌+◌, ◌-◌, ◌^�
 use Rattle.std.specs.Int.{byte_at}
 use Rattle.std.proofs.lemmas.Bool.{cases_lt}
 use Rattle.std.proofs.lemmas.List.{drop-drop, drop_at, get_or-drop, get_or-take, get_or_past, length-append, length-take, take-append-drop}
+use Rattle.perc_octets.specs.Octets.{AreOctets}
+use Rattle.perc_octets.proofs.Octets.{AreOctets-cons, AreOctets-nil}
 use Rattle.byteorder.specs.Endian.{big_bytes, big_number}
-
--- each is an octet
-unfoldable pub AreOctets : List ℕ → Type 0
-AreOctets xs = (i : ℕ) → get_or xs i 0 < 256
-
-pub octet_of : (xs : List ℕ) → AreOctets xs → (i : ℕ) → get_or xs i 0 < 256
-unfolding AreOctets
-octet_of xs fits = fits
-
-pub octets_of : (xs : List ℕ) → ((i : ℕ) → get_or xs i 0 < 256) → AreOctets xs
-unfolding AreOctets
-octets_of xs fits = fits
-
-pub AreOctets-drop : (n : ℕ) (xs : List ℕ) → AreOctets xs → AreOctets (drop n xs)
-unfolding AreOctets
-AreOctets-drop n xs h i = rw get_or-drop (h (n + i))
-
-pub AreOctets-take : (n : ℕ) (xs : List ℕ) → AreOctets xs → AreOctets (take n xs)
-unfolding AreOctets
-AreOctets-take n xs h i =
-    ⊎_elim (λ (inside : i < n). rw (get_or-take n xs i 0 inside) (h i))
-    (λ (past : n ≤ i). rw (get_or_past (take n xs) i 0 (omega (arith, length-take n xs))) (omega arith))
-    (cases_lt i n)
-
-pub AreOctets-cons : (x : ℕ) (xs : List ℕ) → x < 256 → AreOctets xs → AreOctets (x ∷ xs)
-unfolding AreOctets
-AreOctets-cons x xs is fits zero = is
-AreOctets-cons x xs is fits (suc i) = fits i
-
-pub AreOctets-append : (xs ys : List ℕ) → AreOctets xs → AreOctets ys → AreOctets (xs ++ ys)
-unfolding AreOctets
-AreOctets-append [] ys fits more = more
-AreOctets-append (x ∷ xs) ys fits more = AreOctets-cons x (xs ++ ys) (fits 0) (AreOctets-append xs ys (λ i. fits (suc i)) more)
-
-AreOctets-nil : AreOctets []
-unfolding AreOctets
-AreOctets-nil = λ i. omega arith
 
 byte-octet : (k x : ℕ) → byte_at k x < 256
 byte-octet zero x = omega arith
@@ -59,7 +24,6 @@ three_equal : (a b c x y z : ℕ) → a ≡ x → b ≡ y → c ≡ z → ◌≡
 three_equal a b c x y z e f g = cc
 
 pub two_spelled : (xs : List ℕ) → 2 ≤ length xs → AreOctets xs → (big_bytes 2 (big_number 2 xs) ≡ take 2 xs) × (big_number 2 xs < 2 ^ 16)
-unfolding AreOctets
 two_spelled [] h fits = absurd (omega arith)
 two_spelled (a ∷ []) h fits = absurd (omega arith)
 two_spelled (a ∷ b ∷ xs) h fits =
@@ -69,7 +33,6 @@ two_spelled (a ∷ b ∷ xs) h fits =
     (two_equal (byte_at 1 n) (byte_at 0 n) a b (omega arith) (omega arith), omega arith)
 
 pub three_spelled : (xs : List ℕ) → 3 ≤ length xs → AreOctets xs → (big_bytes 3 (big_number 3 xs) ≡ take 3 xs) × (big_number 3 xs < 2 ^ 24)
-unfolding AreOctets
 three_spelled [] h fits = absurd (omega arith)
 three_spelled (a ∷ []) h fits = absurd (omega arith)
 three_spelled (a ∷ b ∷ []) h fits = absurd (omega arith)
@@ -84,7 +47,6 @@ four_equal : (a b c d x y z w : ℕ) → a ≡ x → b ≡ y → c ≡ z → d �
 four_equal a b c d x y z w e f g h = cc
 
 pub four_spelled : (xs : List ℕ) → 4 ≤ length xs → AreOctets xs → (big_bytes 4 (big_number 4 xs) ≡ take 4 xs) × (big_number 4 xs < 2 ^ 32)
-unfolding AreOctets
 four_spelled [] h fits = absurd (omega arith)
 four_spelled (a ∷ []) h fits = absurd (omega arith)
 four_spelled (a ∷ b ∷ []) h fits = absurd (omega arith)

@@ -10,7 +10,9 @@ use Rattle.perc_base.specs.Profile.{key_length}
 use Rattle.perc_ekt.specs.declared.record.EktKeyRecord.{EktKeyRecord}
 use Rattle.perc_ekt.specs.Key.{stored}
 use Rattle.perc_ekt.specs.Record.{IsRecord, has_lengths, record_at, record_octets, record_of}
-use Rattle.perc_ekt.proofs.Octets.{AreOctets, AreOctets-drop, two_spelled, three_spelled, piece, piece_as}
+use Rattle.perc_octets.specs.Octets.{AreOctets}
+use Rattle.perc_octets.proofs.Octets.{AreOctets-drop}
+use Rattle.perc_ekt.proofs.Octets.{two_spelled, three_spelled, piece, piece_as}
 
 -- the parts of a record, from the front and from the back
 regrouped : (l k n s p v : List ℕ) → ((((l ++ k) ++ n) ++ s) ++ p) ++ v ≡ l ++ (k ++ (n ++ (s ++ (p ++ v))))

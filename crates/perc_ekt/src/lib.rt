@@ -6,8 +6,6 @@ mod key;
 pub mod laws;
 mod numbers;
 mod record;
-#[cfg(test)]
-mod tests;
 
 pub use field::{EktField, FieldFault, read_end, write_full, write_short};
 pub use key::{KeyFault, Wrapped, unwrap_key, wrap_key};

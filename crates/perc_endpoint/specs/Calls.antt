@@ -1,7 +1,7 @@
 -- What holds of an endpoint over any list of its calls.
 use Rattle.std.specs.Prelude.{◌≡◌, ℕ, false, List, [], ◌∷◌, ◌++◌, Result, Ok, Err}
 use Rattle.perc_rtp.specs.Media.{Content}
-use Rattle.perc_aes.specs.Octets.{AreOctets}
+use Rattle.perc_octets.specs.Octets.{AreOctets}
 use Rattle.perc_receiver.specs.Table.{IsRight, IsSecret, Secret, Table}
 use Rattle.perc_receiver.specs.Receiver.{Accepted}
 use Rattle.perc_receiver.specs.Foreign.{is_foreign}

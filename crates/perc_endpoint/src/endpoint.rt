@@ -3,7 +3,7 @@ ghost use Rattle.std.specs.Prelude.{◌≡◌, ℕ, ◌^◌, ◌<◌, ◌≤◌,
 ghost use Rattle.perc_base.specs.Profile.{key_length};
 ghost use Rattle.perc_ekt.specs.Record.{IsRecord};
 ghost use Rattle.perc_rtp.specs.Media.{content_of};
-ghost use Rattle.perc_aes.specs.Octets.{AreOctets};
+ghost use Rattle.perc_octets.specs.Octets.{AreOctets};
 ghost use Rattle.perc_receiver.specs.Table.{Secret, secret_in};
 ghost use Rattle.perc_outgoing.specs.Sending.{IsContent};
 ghost use Rattle.perc_incoming.specs.Control.{IsControl};

@@ -5,8 +5,6 @@
 mod endpoint;
 mod fault;
 pub mod laws;
-#[cfg(test)]
-mod tests;
 
 pub use endpoint::Endpoint;
 pub use fault::GrantFault;

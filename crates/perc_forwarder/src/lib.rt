@@ -4,8 +4,6 @@
 
 mod distributor;
 mod reasons;
-#[cfg(test)]
-mod tests;
 mod words;
 
 pub use distributor::{Distributor, MOST_TAKEN, Taking};

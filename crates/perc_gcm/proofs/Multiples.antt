@@ -1,7 +1,8 @@
 -- A product by a table of multiples: four coefficients at a time, the last four first.
-use Rattle.std.proofs.Common.{◌≡◌, ℕ, zero, suc, ◌+◌, ◌-◌, ◌*◌, ◌/◌, ◌%◌, ◌^◌, ◌<◌, ◌≤◌, List, [], ◌∷◌, length, get_or, bit_and, bit_xor, refl, sym, ◌∙◌, ap, arith, zero-add}
+use Rattle.std.proofs.Common.{◌≡◌, ℕ, zero, suc, ◌+◌, ◌-◌, ◌*◌, ◌/◌, ◌%◌, ◌^◌, ◌<◌, ◌≤◌, List, [], ◌∷◌, length, map, get_or, bit_and, bit_xor, refl, sym, ◌∙◌, ap, arith, zero-add}
+use Rattle.std.specs.List.{range_with_len}
 use Rattle.std.specs.Int.Bits.{xor_assoc, xor_zero_l, xor_zero_r}
-use Rattle.std.proofs.Math.Nat.{add-mul, add-zero, mul_assoc, mul_comm, mul-lt-mul_of_pos_right, pow-suc, zero-mul}
+use Rattle.std.proofs.Math.Nat.{add-mul, add-zero, mul_assoc, mul_comm, mul-suc, mul-zero, mul-lt-mul_of_pos_right, pow-suc, zero-mul}
 use Rattle.std.proofs.lemmas.List.FromFn.{fill_by_all, get_or-map-range_with_len}
 use Rattle.std.proofs.lemmas.Nat.{and_mask, div-add-mod', mod_below, mod-pow-add, pow-add, pow_below, pow_pos, shr-shr, xor_block, xor_comm}
 use Rattle.perc_gcm.specs.Field.{add, times_x, shifted, product}
@@ -105,9 +106,11 @@ low_at h (suc (suc (suc (suc u)))) fits inside = absurd (omega arith)
 halves_of_nibble : (i : ℕ) → i < 16 → polynomial i ≡ add (i / 4 * 2 ^ 126) (i % 4 * 2 ^ 124)
 halves_of_nibble i h = same_along 16 polynomial (λ i. add (i / 4 * 2 ^ 126) (i % 4 * 2 ^ 124)) refl i h
 
--- an entry as the body makes it
-pub entry_is : (h x1 x2 x3 i : ℕ) → h < 2 ^ 128 → i < 16 → x1 ≡ times_x h → x2 ≡ times_x x1 → x3 ≡ times_x x2
-    → bit_xor (get_or (0 ∷ x1 ∷ h ∷ bit_xor h x1 ∷ []) (i / 4) 0) (get_or (0 ∷ x3 ∷ x2 ∷ bit_xor x2 x3 ∷ []) (i % 4) 0) ≡ product (polynomial i) h
+-- an entry as the body makes it, of h and its products by x to the powers 1, 2 and 3
+abbrev entry_made : (h x1 x2 x3 i : ℕ) → ℕ
+entry_made h x1 x2 x3 i = bit_xor (get_or (0 ∷ x1 ∷ h ∷ bit_xor h x1 ∷ []) (i / 4) 0) (get_or (0 ∷ x3 ∷ x2 ∷ bit_xor x2 x3 ∷ []) (i % 4) 0)
+
+entry_is : (h x1 x2 x3 i : ℕ) → h < 2 ^ 128 → i < 16 → x1 ≡ times_x h → x2 ≡ times_x x1 → x3 ≡ times_x x2 → entry_made h x1 x2 x3 i ≡ product (polynomial i) h
 entry_is h x1 x2 x3 i fits inside e1 e2 e3 =
     let two = e2 ∙ ap times_x e1 in
     let three = e3 ∙ ap times_x two in
@@ -118,9 +121,15 @@ entry_is h x1 x2 x3 i fits inside e1 e2 e3 =
     ∙ ap (λ (p : ℕ). product p h) (sym (halves_of_nibble i inside)))
 
 -- the entries as a list
-pub multiples_filled : (h : ℕ) (entries : List ℕ) → length entries ≡ 16 → ((i : ℕ) → i < 16 → get_or entries i 0 ≡ product (polynomial i) h) → entries ≡ multiples h
+multiples_filled : (h : ℕ) (entries : List ℕ) → length entries ≡ 16 → ((i : ℕ) → i < 16 → get_or entries i 0 ≡ product (polynomial i) h) → entries ≡ multiples h
 unfolding multiples
 multiples_filled h entries size each = fill_by_all (λ nibble. product (polynomial nibble) h) entries 16 0 size each
+
+-- as the body makes them
+pub multiples_made : (h x1 x2 x3 : ℕ) → h < 2 ^ 128 → x1 ≡ times_x h → x2 ≡ times_x x1 → x3 ≡ times_x x2 → map (entry_made h x1 x2 x3) (range_with_len 0 16) ≡ multiples h
+multiples_made h x1 x2 x3 fits e1 e2 e3 =
+    multiples_filled h (map (entry_made h x1 x2 x3) (range_with_len 0 16)) refl
+    (λ i inside. get_or-map-range_with_len (entry_made h x1 x2 x3) 0 16 i i 0 inside (omega arith) ∙ entry_is h x1 x2 x3 i fits inside e1 e2 e3)
 
 pub multiple_at : (h i : ℕ) → i < 16 → get_or (multiples h) i 0 ≡ product (polynomial i) h
 unfolding multiples
@@ -199,33 +208,38 @@ product_all h v fits =
 left_next : (w v rest k : ℕ) → rest ≡ v / 2 ^ k → rest / 2 ^ w ≡ v / 2 ^ (k + w)
 left_next w v rest k is = ap (λ (x : ℕ). x / 2 ^ w) is ∙ shr-shr v k w
 
--- ---- nibble after nibble
+-- ---- w coefficients after another
 
--- The sum is the product of the low 4 i bits of v, moved to the top, and rest is what of v is left.
-pub record Stepped (h v rest sum i : ℕ) : Type 0 where
-  pub left : rest ≡ v / 2 ^ (4 * i)
-  pub done : sum ≡ product (low_part v (4 * i)) h
+-- The sum is the product of the low w i bits of v, moved to the top, and rest is what of v is left.
+pub record Stepped (w h v rest sum i : ℕ) : Type 0 where
+  pub left : rest ≡ v / 2 ^ (w * i)
+  pub done : sum ≡ product (low_part v (w * i)) h
 
-pub stepped_first : (h v : ℕ) → Stepped h v v 0 0
-stepped_first h v = record { left = omega arith; done = product_none h v }
-
-pub stepped_more : (h v rest sum next entry i : ℕ) → i < 32 → Stepped h v rest sum i → next ≡ shifted sum 4 → entry ≡ get_or (multiples h) (bit_and rest 15) 0 → Stepped h v (rest / 16) (bit_xor next entry) (i + 1)
-stepped_more h v rest sum next entry i inside so_far next_is entry_is =
-    let more : 4 * i + 4 ≡ 4 * (i + 1) = omega arith in
-    let nibble : bit_and rest 15 ≡ v / 2 ^ (4 * i) % 16 = and_mask rest 4 ∙ ap (λ (x : ℕ). x % 16) so_far.left in
+pub stepped_first : (w h v : ℕ) → Stepped w h v v 0 0
+stepped_first w h v =
+    let none : 0 ≡ w * 0 = sym (mul-zero w) in
+    let whole : v ≡ v / 2 ^ 0 = omega arith in
     record {
-      left = left_next 4 v rest (4 * i) so_far.left ∙ ap (λ (n : ℕ). v / 2 ^ n) more;
+      left = whole ∙ ap (λ (n : ℕ). v / 2 ^ n) none;
+      done = product_none h v ∙ ap (λ (n : ℕ). product (low_part v n) h) none;
+    }
+
+pub stepped_more : (w h v rest sum next entry i : ℕ) → w * i + w ≤ 128 → Stepped w h v rest sum i → next ≡ shifted sum w → entry ≡ product (rest % 2 ^ w * 2 ^ (128 - w)) h → Stepped w h v (rest / 2 ^ w) (bit_xor next entry) (i + 1)
+stepped_more w h v rest sum shifted_sum entry i inside so_far sum_is entry_value =
+    let next : suc i ≡ i + 1 = omega arith in
+    let more : w * i + w ≡ w * (i + 1) = sym (mul-suc w i) ∙ ap (λ (n : ℕ). w * n) next in
+    record {
+      left = left_next w v rest (w * i) so_far.left ∙ ap (λ (n : ℕ). v / 2 ^ n) more;
       done =
-          ap (λ (x : ℕ). bit_xor x entry) (next_is ∙ ap (λ (x : ℕ). shifted x 4) so_far.done)
-          ∙ ap (λ (x : ℕ). bit_xor (shifted (product (low_part v (4 * i)) h) 4) x)
-          (entry_is ∙ ap (λ (n : ℕ). get_or (multiples h) n 0) nibble ∙ multiple_at h (v / 2 ^ (4 * i) % 16) (omega arith))
-          ∙ sym (product_next 4 h v (4 * i) (omega arith))
+          ap (λ (x : ℕ). bit_xor x entry) (sum_is ∙ ap (λ (x : ℕ). shifted x w) so_far.done)
+          ∙ ap (λ (x : ℕ). bit_xor (shifted (product (low_part v (w * i)) h) w) x)
+          (entry_value ∙ ap (λ (x : ℕ). product (x % 2 ^ w * 2 ^ (128 - w)) h) so_far.left)
+          ∙ sym (product_next w h v (w * i) inside)
           ∙ ap (λ (n : ℕ). product (low_part v n) h) more;
     }
 
-pub stepped_last : (h v rest sum i : ℕ) → v < 2 ^ 128 → i ≡ 32 → Stepped h v rest sum i → sum ≡ product v h
-stepped_last h v rest sum i fits end so_far =
-    let all : 4 * i ≡ 128 = omega arith in
+pub stepped_last : (w h v rest sum i : ℕ) → v < 2 ^ 128 → w * i ≡ 128 → Stepped w h v rest sum i → sum ≡ product v h
+stepped_last w h v rest sum i fits all so_far =
     so_far.done ∙ ap (λ (n : ℕ). product (low_part v n) h) all ∙ product_all h v fits
 
 -- ---- two products at once, octet after octet

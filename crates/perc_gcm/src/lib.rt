@@ -10,12 +10,10 @@ mod field;
 mod hash;
 pub mod laws;
 mod table;
-#[cfg(test)]
-mod tests;
 
 use counter::{add_key_stream, masked_counter};
 use field::block_of;
-use hash::{hash_octets, hash_tables};
+use hash::{hash_octets, hash_table};
 use perc_aes::AesKey;
 pub use table::HTable;
 
@@ -85,11 +83,11 @@ fn tag_of(key: &AesKey, iv: &[u8; 12], aad: &[u8], cipher: &[u8]) -> [u8; 16]
     ensures value { result ≡ tag key.now iv.now aad.now cipher.now }
     ensures key { IsKey key.now }
 {
-    let tables = hash_tables(key);
+    let table = hash_table(key);
     let lengths = (8 * aad.len() as u128) << 64 | 8 * cipher.len() as u128;
-    let aad_hash = hash_octets(&tables, 0, aad);
-    let text_hash = hash_octets(&tables, aad_hash, cipher);
-    let hash = tables.once.whole.product(text_hash ^ lengths);
+    let aad_hash = hash_octets(&table, 0, aad);
+    let text_hash = hash_octets(&table, aad_hash, cipher);
+    let hash = table.product(text_hash ^ lengths);
     let mask = masked_counter(key, iv, 0);
     block_of(hash ^ u128::from_be_bytes(mask))
 }

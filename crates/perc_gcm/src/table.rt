@@ -44,11 +44,33 @@ impl HTable {
         let h_x3 = times_x(h_x2);
         let high = [0, h_x, h, h ^ h_x];
         let low = [0, h_x3, h_x2, h_x2 ^ h_x3];
-        let mut entries = [0; 16];
-        for i in 0..16 {
-            entries[i] = high[i / 4] ^ low[i % 4];
+        HTable {
+            entries: [
+                high[0] ^ low[0],
+                high[0] ^ low[1],
+                high[0] ^ low[2],
+                high[0] ^ low[3],
+                high[1] ^ low[0],
+                high[1] ^ low[1],
+                high[1] ^ low[2],
+                high[1] ^ low[3],
+                high[2] ^ low[0],
+                high[2] ^ low[1],
+                high[2] ^ low[2],
+                high[2] ^ low[3],
+                high[3] ^ low[0],
+                high[3] ^ low[1],
+                high[3] ^ low[2],
+                high[3] ^ low[3],
+            ],
         }
-        HTable { entries }
+    }
+
+    // The element of the table.
+    fn element(&self) -> u128
+        ensures { result ≡ self.now.h }
+    {
+        self.entries[8]
     }
 
     /// Multiplies the element that a block spells by the element of the table, in place.
@@ -99,6 +121,26 @@ impl OctetTable {
         }
     }
 
+    // The tables of the square of the element.
+    pub(crate) fn squared(&self) -> OctetTable
+        ensures { result.whole.h ≡ square self.now.whole.h }
+    {
+        OctetTable::of(self.product(self.whole.element()))
+    }
+
+    // The product of an element and that of the tables, from the last eight coefficients to the first.
+    pub(crate) fn product(&self, element: u128) -> u128
+        ensures { result ≡ product element self.now.whole.h }
+    {
+        let mut rest = element;
+        let mut sum = 0;
+        for _i in 0..16u32 {
+            sum = times_x8(sum) ^ self.at(rest & 255);
+            rest >>= 8;
+        }
+        sum
+    }
+
     // The product by the polynomial of degree below 8 that an octet spells.
     fn at(&self, octet: u128) -> u128
         requires { octet < 256 }
@@ -108,36 +150,19 @@ impl OctetTable {
     }
 }
 
-// The tables of an element and of its square, by which two elements are multiplied at once.
-#[derive(Drop)]
-pub(crate) struct PairTable {
-    pub(crate) once: OctetTable,
-    twice: OctetTable,
-    ghost is_square: { twice.whole.h ≡ square once.whole.h },
-}
-
-impl PairTable {
-    pub(crate) fn of(h: u128) -> PairTable
-        ensures { result.once.whole.h ≡ h }
-    {
-        let once = OctetTable::of(h);
-        let twice = OctetTable::of(once.whole.product(h));
-        PairTable { once, twice }
+// The product of one element and the square, and that of another and the element, added. A block that comes one before
+// another is multiplied once more than that one.
+pub(crate) fn products(once: &OctetTable, twice: &OctetTable, first: u128, second: u128) -> u128
+    requires { twice.now.whole.h ≡ square once.now.whole.h }
+    ensures { result ≡ add (product first (square once.now.whole.h)) (product second once.now.whole.h) }
+{
+    let mut more = first;
+    let mut rest = second;
+    let mut sum = 0;
+    for _i in 0..16u32 {
+        sum = times_x8(sum) ^ twice.at(more & 255) ^ once.at(rest & 255);
+        more >>= 8;
+        rest >>= 8;
     }
-
-    // The product of one element and the square, and that of another and the element, added. A block that comes one
-    // before another is multiplied once more than that one.
-    pub(crate) fn products(&self, first: u128, second: u128) -> u128
-        ensures { result ≡ add (product first (square self.now.once.whole.h)) (product second self.now.once.whole.h) }
-    {
-        let mut more = first;
-        let mut rest = second;
-        let mut sum = 0;
-        for _i in 0..16u32 {
-            sum = times_x8(sum) ^ self.twice.at(more & 255) ^ self.once.at(rest & 255);
-            more >>= 8;
-            rest >>= 8;
-        }
-        sum
-    }
+    sum
 }

@@ -36,7 +36,7 @@ use Rattle.perc_srtp.proofs.PacketLaws.{length-sealed_body}
 use Rattle.perc_double.specs.Double.{double, nothing_kept, opened, relayed, relayed_length}
 use Rattle.perc_keyset.specs.Set.{entry_of}
 use Rattle.perc_keyset.specs.declared.Entry.{Entry}
-use Rattle.perc_aes.specs.Octets.{AreOctets}
+use Rattle.perc_octets.specs.Octets.{AreOctets}
 use Rattle.perc_receiver.specs.Table.{inner_keys}
 use Rattle.perc_outgoing.specs.Sending.{IsSending, Outgoing, next_place, outer_index, sending_key, sent_datagram, sent_field, sent_header, sent_inner}
 use Rattle.perc_outer.specs.Streams.{accepted_of, is_full_for}

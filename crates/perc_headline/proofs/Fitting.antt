@@ -25,7 +25,8 @@ use Rattle.perc_rtp.specs.Media.{Content, is_payload_type, padding_octets, rest_
 use Rattle.perc_rtp.specs.declared.carried.Carried.{Carried}
 use Rattle.perc_rtp.specs.declared.carried.Carried.TheVariants as carried
 use Rattle.perc_rtp.proofs.HeaderLaws.{spelling-octets}
-use Rattle.perc_rtp.proofs.Octets.{AreOctets-all, AreOctets-drop, AreOctets-take}
+use Rattle.perc_octets.proofs.Octets.{AreOctets-drop, AreOctets-take}
+use Rattle.perc_rtp.proofs.Octets.{AreOctets-all}
 use Rattle.perc_ohb.specs.Block.{IsOhb, config, marker_bits, pt_octets, seq_octets, spelling as block_spelling}
 use Rattle.perc_ohb.specs.declared.block.Ohb.{Ohb}
 use Rattle.perc_ohb.specs.Rewriting.{IsExtensionSet, IsRewrite, Rewrite, block_after}
@@ -48,7 +49,7 @@ use Rattle.perc_outer.specs.Datagram as outer
 use Rattle.perc_outer.specs.Datagram.{Opened, Reach, Reached, reached}
 use Rattle.perc_outer.specs.Streams.{OuterStream}
 use Rattle.perc_outer.proofs.Outer.{is_reached}
-use Rattle.perc_aes.specs.Octets.{AreOctets}
+use Rattle.perc_octets.specs.Octets.{AreOctets}
 use Rattle.perc_receiver.specs.Table.{IsSecret, Secret, inner_keys}
 use Rattle.perc_sender.specs.Schedule.{roll_over}
 use Rattle.perc_outgoing.specs.Sending.{IsSending, Outgoing, next_place, outer_index, sending_key, sent_datagram, sent_field, sent_header, sent_inner}

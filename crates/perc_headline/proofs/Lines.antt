@@ -12,7 +12,7 @@ use Rattle.perc_base.specs.Profile.{key_length}
 use Rattle.perc_contexts.specs.Receiving.{spi_answer}
 use Rattle.perc_contexts.specs.declared.SpiOld.{SpiOld as OldSpi}
 use Rattle.perc_sender.specs.Schedule.{take_answer}
-use Rattle.perc_aes.specs.Octets.{AreOctets}
+use Rattle.perc_octets.specs.Octets.{AreOctets}
 use Rattle.perc_receiver.specs.Table.{IsSecret, Secret, Table, secret_of}
 use Rattle.perc_receiver.specs.Receiver.{live_of}
 use Rattle.perc_receiver.proofs.Once as receiver

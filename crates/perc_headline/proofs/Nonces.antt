@@ -21,7 +21,7 @@ use Rattle.perc_srtp.specs.Sealed.{rtcp_iv, rtcp_ssrc}
 use Rattle.perc_keyset.specs.Set.{absorbed, is_of}
 use Rattle.perc_keyset.specs.declared.Entry.{Entry}
 use Rattle.perc_keyset.specs.declared.Op.TheVariants.{Remove}
-use Rattle.perc_aes.specs.Octets.{AreOctets}
+use Rattle.perc_octets.specs.Octets.{AreOctets}
 use Rattle.perc_receiver.specs.Table.{IsSecret, Secret, secret_of}
 use Rattle.perc_receiver.specs.Receiver.{Receiver}
 use Rattle.perc_receiver.specs.Foreign.{is_foreign}

@@ -24,7 +24,7 @@ use Rattle.perc_srtp.proofs.PacketLaws.{iv_injective, rtcp_iv_injective, tx_is_n
 use Rattle.perc_double.specs.Double.{relayed, relayed_length}
 use Rattle.perc_keyset.specs.Set.{is_of}
 use Rattle.perc_keyset.specs.declared.Entry.{Entry}
-use Rattle.perc_aes.specs.Octets.{AreOctets}
+use Rattle.perc_octets.specs.Octets.{AreOctets}
 use Rattle.perc_outer.specs.Streams.{accepted_of, is_full_for, with_index}
 use Rattle.perc_outer.proofs.Outer.{accepted_past, accepted_with}
 use Rattle.perc_outgoing.specs.History.{Seal}

@@ -18,7 +18,7 @@ use Rattle.perc_ekt.specs.Field as field
 use Rattle.perc_sender.specs.Schedule.{Taken, newest}
 use Rattle.perc_sender.specs.Schedule as sender
 use Rattle.perc_sender.proofs.Keys.{newest_push}
-use Rattle.perc_aes.specs.Octets.{AreOctets}
+use Rattle.perc_octets.specs.Octets.{AreOctets}
 use Rattle.perc_receiver.specs.Table.{Secret}
 use Rattle.perc_outgoing.specs.Sending.{IsContent, IsSending, Outgoing, RunsBeside, after_send, after_take, outer_index, send_fault, sent_datagram, sent_field, sent_header, sent_inner, started}
 use Rattle.perc_outgoing.proofs.Standing.{free_outer}

@@ -9,8 +9,6 @@ pub mod laws;
 mod receiving;
 mod records;
 mod settling;
-#[cfg(test)]
-mod tests;
 mod trying;
 
 pub use carried::UnwrappedKey;

@@ -6,17 +6,12 @@ use Rattle.std.proofs.lemmas.List.{get_or_append_left, get_or-append_right, get_
 use Rattle.std.proofs.lemmas.List.FromFn.{get_or-map-range_with_len, length-map-range_with_len}
 use Rattle.std.proofs.lemmas.Nat.{xor_lt}
 use Rattle.perc_aes.specs.Cipher.{IsBlock, IsKey, IsKeyLength}
-use Rattle.perc_aes.specs.Octets.{AreOctets}
+use Rattle.perc_octets.specs.Octets.{AreOctets}
+use Rattle.perc_octets.proofs.Octets.{AreOctets-append}
 use Rattle.perc_aes.proofs.CipherLaws.{IsBlock-aes}
 use Rattle.perc_kdf.specs.Derivation.{IsMaster, IsMasterLength, IsSession, KeyAndSalt, counter_block, derived, key_label, padded, salt_label, session_keys, stream_octet}
 use Rattle.perc_kdf.specs.declared.Kind.{Kind}
 use Rattle.perc_kdf.specs.declared.Kind.TheVariants.{Srtp, Srtcp}
-
-below-append : (xs ys : List ℕ) → AreOctets xs → AreOctets ys → AreOctets (xs ++ ys)
-below-append xs ys p q k =
-    ⊎_elim (λ (inside : k < length xs). rw (get_or_append_left xs ys 0 k inside) (p k))
-    (λ (past : length xs ≤ k). rw (get_or-append_right xs ys (length xs) k 0 refl past) (q (k - length xs)))
-    (cases_lt k (length xs))
 
 below-set : (xs : List ℕ) (i x : ℕ) → AreOctets xs → x < 256 → AreOctets (set xs i x)
 below-set xs i x p small k =
@@ -36,7 +31,7 @@ below-two a b p q (suc (suc k)) = omega arith
 pub IsBlock-counter_block : (salt : List ℕ) (label i : ℕ) → length salt ≡ 14 → AreOctets salt → label < 256 → i < 65536 → IsBlock (counter_block salt label i)
 IsBlock-counter_block salt label i size octets small few = record {
   size = rw (length-append (set salt 7 (bit_xor (get_or salt 7 0) label)) (i / 256 ∷ i % 256 ∷ []), length-set salt 7 (bit_xor (get_or salt 7 0) label), size) refl;
-  octets = below-append (set salt 7 (bit_xor (get_or salt 7 0) label)) (i / 256 ∷ i % 256 ∷ [])
+  octets = AreOctets-append (set salt 7 (bit_xor (get_or salt 7 0) label)) (i / 256 ∷ i % 256 ∷ [])
       (below-set salt 7 (bit_xor (get_or salt 7 0) label) octets (xor_lt 8 (get_or salt 7 0) label (octets 7) small))
       (below-two (i / 256) (i % 256) (omega arith) (omega arith));
 }
@@ -82,7 +77,7 @@ IsSession-session_keys master kind is =
     let n : ℕ = length master.key in
     let salt : List ℕ = padded master.salt in
     let size : length salt ≡ 14 = length-append master.salt (0 ∷ 0 ∷ []) ∙ ap (λ k. k + 2) is.salt_size in
-    let octets : AreOctets salt = below-append master.salt (0 ∷ 0 ∷ []) is.salt_octets (below-two 0 0 (omega arith) (omega arith)) in
+    let octets : AreOctets salt = AreOctets-append master.salt (0 ∷ 0 ∷ []) is.salt_octets (below-two 0 0 (omega arith) (omega arith)) in
     let key : IsKey master.key = record { size = IsKeyLength-master n is.key_size; octets = is.key_octets } in
     let long : length (derived master.key salt (key_label kind) n) ≡ n = length-derived master.key salt (key_label kind) n in
     record {

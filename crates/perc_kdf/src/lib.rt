@@ -196,6 +196,3 @@ pub fn session(master: &Master, kind: Kind) -> SessionKeys
     derive(&cipher, &padded, salt_label, &mut salt);
     SessionKeys { key, len, salt }
 }
-
-#[cfg(test)]
-mod tests;

@@ -7,6 +7,3 @@ mod memory;
 
 pub use keeper::{KeepFault, Keeper};
 pub use memory::MemKeeper;
-
-#[cfg(test)]
-mod tests;

@@ -15,7 +15,9 @@ use Rattle.perc_base.specs.Profile.{key_length, profile_number}
 use Rattle.perc_kdf.specs.Derivation.{KeyAndSalt}
 use Rattle.perc_ekt.specs.declared.record.EktKeyRecord.{EktKeyRecord}
 use Rattle.perc_ekt.specs.Record.{IsRecord, record_octets, record_of}
-use Rattle.perc_ekt.proofs.Octets.{AreOctets, AreOctets-drop, AreOctets-take, octet_of, octets_of, two_spelled}
+use Rattle.perc_octets.specs.Octets.{AreOctets}
+use Rattle.perc_octets.proofs.Octets.{AreOctets-drop, AreOctets-take}
+use Rattle.perc_ekt.proofs.Octets.{two_spelled}
 use Rattle.perc_ekt.proofs.Records.{key-lengths, octets-length, record_reads, record_was_read}
 use Rattle.perc_tunnel.specs.Message.{IsHalf}
 use Rattle.perc_tunnel.specs.Message as tunnel
@@ -183,7 +185,7 @@ half_put n d rest e =
     append_assoc (take n d) (take 12 (drop n d)) rest ∙ ap (λ ys. take n d ++ ys) (piece_at d n 12 (n + 12) rest refl e) ∙ take-append-drop n d
 
 all_of : (xs : List ℕ) → AreOctets xs → tunnel.AreOctets xs
-all_of xs octets k d below = subst (λ x. x < 256) (get_or_default xs k 0 d below) (octet_of xs octets k)
+all_of xs octets k d below = subst (λ x. x < 256) (get_or_default xs k 0 d below) (octets k)
 
 half_right : (p : Profile) (d : List ℕ) → key_length p + 12 ≤ length d → AreOctets d → IsHalf p (half_at (key_length p) d)
 half_right p d room octets =
@@ -238,7 +240,7 @@ alert_only p xs e = e
 pub clear_only : (p : Profile) (xs : List ℕ) (r : Record) → ((i : ℕ) → get_or xs i 0 < 256) → record_in p xs ≡ Some r → IsClear p r × (xs ≡ spelling p r)
 unfolding record_in
 clear_only p xs r fits e =
-    let octets = octets_of xs fits in
+    let octets : AreOctets xs = fits in
     elim (kinds (bytes_eq xs alert) (is_kind 1 xs) (is_kind 2 xs) (is_kind 3 xs) (hello_in xs) (welcome_in (key_length p) (profile_number p) xs) (renewal_in (key_length p) xs) r e) [
       | inl leaves ↦ subst (λ q. IsClear p q × (xs ≡ spelling p q)) leaves.1 (tt, alert_only p xs ((bytes_eq-Decides xs alert).0 leaves.0))
       | inr others ↦ elim others [

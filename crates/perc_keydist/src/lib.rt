@@ -6,8 +6,6 @@ mod admission;
 mod desk;
 mod distributor;
 mod fault;
-#[cfg(test)]
-mod feed_tests;
 mod handshake;
 mod issuing;
 pub mod laws;
@@ -18,6 +16,3 @@ pub use distributor::KeyDist;
 pub use fault::KdFault;
 pub use handshake::{ClearHandshake, Handshake, Hello};
 pub use record::ClearRecord;
-
-#[cfg(test)]
-mod tests;

@@ -1,4 +1,4 @@
--- What a publisher keeps: the earlier of two gifts is that of the earliest add, and what is kept stays that of the history.
+-- What is kept beside the accepted adds and removals: the earlier of two gifts is that of the earliest add, and what is kept stays that of the history.
 use Rattle.std.specs.BTreeMap as tree
 use Rattle.std.specs.BTreeMap.{BTreeMap}
 use Rattle.std.proofs.Common.{◌≡◌, ℕ, ◌+◌, ◌≤◌, ◌<◌, Bool, true, false, cond, ◌||◌, List, [], ◌∷◌, ◌++◌, length, ⊎_elim, refl, sym, ap, ◌∙◌, subst, arith, append-nil}
@@ -18,10 +18,10 @@ use Rattle.perc_keyset.specs.declared.Op.{Op}
 use Rattle.perc_keyset.specs.declared.Op.TheVariants.{Add, Remove}
 use Rattle.perc_keyset.specs.Set.{absorbed, fold_ops}
 use Rattle.perc_keyset.specs.History.{IsHistory, adds}
-use Rattle.perc_keyset.specs.Publishing.{add_answer, gave, new_entry, reused_by}
+use Rattle.perc_keyset.specs.Accepting.{add_answer, gave, new_entry, reused_by}
 use Rattle.perc_keyset.specs.Kept.{AreGiven, IsKept, earlier, gift_of, given_by, gives}
 use Rattle.perc_keyset.proofs.HistoryLaws.{CountFrom, counts_head, counts_tail}
-use Rattle.perc_keyset.proofs.PublishingLaws.{IsAccepted-from_answer, IsHistory-add, IsHistory-remove}
+use Rattle.perc_keyset.proofs.AcceptingLaws.{IsAccepted-from_answer, IsHistory-add, IsHistory-remove}
 use Rattle.perc_keyset.proofs.SetLaws.{adds-append, set_after-append}
 
 -- ---- the earliest of two

@@ -2,5 +2,5 @@ pub mod GivenLaws
 pub mod HistoryLaws
 pub mod KeptLaws
 pub mod Lists
-pub mod PublishingLaws
+pub mod AcceptingLaws
 pub mod SetLaws

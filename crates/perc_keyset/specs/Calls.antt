@@ -1,10 +1,10 @@
--- Calls of a publisher, and what it has accepted behind them. A call that finds no memory changes nothing, and is none here.
+-- Adds and removals that are asked for, and what is accepted behind them. A call that finds no memory changes nothing, and is none here.
 use Rattle.std.specs.Prelude.{ℕ, if◌then◌else◌, List, [], ◌∷◌, ◌++◌}
 use Rattle.perc_kdf.specs.Derivation.{KeyAndSalt}
 use Rattle.perc_keyset.specs.declared.Op.{Op}
 use Rattle.perc_keyset.specs.declared.Op.TheVariants.{Remove}
 use Rattle.perc_keyset.specs.Set.{fold_ops, holds}
-use Rattle.perc_keyset.specs.Publishing.{add_answer, after_add}
+use Rattle.perc_keyset.specs.Accepting.{add_answer, after_add}
 
 pub data Call : Type 0 where
   AddCall : (association : List ℕ) → (client server : KeyAndSalt) → Call

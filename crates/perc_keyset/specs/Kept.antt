@@ -1,4 +1,4 @@
--- What a publisher keeps beside the accepted adds and removals, so that an answer costs no walk over them.
+-- What is kept beside the accepted adds and removals, so that an answer costs no walk over them.
 use Rattle.std.specs.BTreeMap as tree
 use Rattle.std.specs.BTreeMap.{BTreeMap}
 use Rattle.std.specs.Option.{option_map}
@@ -10,7 +10,7 @@ use Rattle.perc_keyset.specs.declared.Op.{Op}
 use Rattle.perc_keyset.specs.declared.given.Gift.{Gift}
 use Rattle.perc_keyset.specs.Set.{fold_ops}
 use Rattle.perc_keyset.specs.History.{IsHistory, adds}
-use Rattle.perc_keyset.specs.Publishing.{most_adds}
+use Rattle.perc_keyset.specs.Accepting.{most_adds}
 
 -- this add gave this pair
 abbrev pub gives : KeyAndSalt → Entry → Bool

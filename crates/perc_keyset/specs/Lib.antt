@@ -1,5 +1,5 @@
 pub mod Calls
 pub mod History
 pub mod Kept
-pub mod Publishing
+pub mod Accepting
 pub mod Set

@@ -6,13 +6,13 @@ ghost use Rattle.perc_keyset.specs.Calls.{Call, after_call, after_calls};
 ghost use Rattle.perc_keyset.specs.declared.Entry.{Entry};
 ghost use Rattle.perc_keyset.specs.declared.Op.{Op};
 
-/// Whatever is asked of a new publisher: what it accepts is a history, in which no outer pair stands twice, and its set is
+/// Whatever is asked, from the start on: what is accepted is a history, in which no outer pair stands twice, and its set is
 /// that of the history.
 pub fn any_calls()
     ensures { (calls : List Call) → let ops = after_calls [] calls in IsHistory ops × IsSetOf (fold_ops ops) ops }
 {}
 
-/// What a publisher accepts keeps a history one.
+/// What is accepted behind a history leaves a history.
 pub fn each_call()
     ensures { (ops : List Op) (call : Call) → IsHistory ops → IsHistory (after_call ops call) }
 {}

@@ -2,13 +2,13 @@
 //! distributor gives them (RFC 9185). No outer key and salt serve twice.
 #![tactic(auto)]
 
+mod accepted;
 mod given;
 pub mod laws;
-mod publisher;
 mod set;
 
+pub use accepted::Accepted;
 use perc_kdf::Master;
-pub use publisher::Publisher;
 pub use set::KeySet;
 use thiserror::Error;
 
@@ -71,6 +71,3 @@ pub enum RemoveFault {
     #[error("out of memory")]
     Memory,
 }
-
-#[cfg(test)]
-mod tests;

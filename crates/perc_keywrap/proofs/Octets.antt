@@ -1,31 +1,9 @@
 -- Lists of octets and their parts.
 use Rattle.std.proofs.Common.{◌≡◌, ℕ, zero, suc, ◌+◌, ◌-◌, ◌*◌, ◌<◌, ◌≤◌, List, ◌++◌, length, get_or, take, drop, replicate, ⊎_elim, refl, sym, ◌∙◌, ap, arith, append_assoc, length-append}
+use Rattle.perc_octets.specs.Octets.{AreOctets}
 use Rattle.std.specs.Int.{byte_at, bytes_high_first}
 use Rattle.std.proofs.lemmas.Bool.{cases_lt}
 use Rattle.std.proofs.lemmas.List.{get_or_append_left, get_or-append_right, get_or-take, get_or-drop, get_or_past, length-take, take_at, drop_at, take-append-drop, drop-drop}
-
--- every octet is below 256
-pub record AreOctets (s : List ℕ) : Type 0 where
-  pub small : (k : ℕ) → get_or s k 0 < 256
-
-pub octets-append : (a b : List ℕ) → AreOctets a → AreOctets b → AreOctets (a ++ b)
-octets-append a b of_a of_b = record {
-  small = λ k.
-      ⊎_elim (λ (first : k < length a). rw (get_or_append_left a b 0 k first) (of_a.small k))
-      (λ (second : length a ≤ k). rw (get_or-append_right a b (length a) k 0 refl second) (of_b.small (k - length a)))
-      (cases_lt k (length a));
-}
-
-pub octets-take : (n : ℕ) (s : List ℕ) → AreOctets s → AreOctets (take n s)
-octets-take n s of_s = record {
-  small = λ k.
-      ⊎_elim (λ (inside : k < n). rw (get_or-take n s k 0 inside) (of_s.small k))
-      (λ (past : n ≤ k). rw (get_or_past (take n s) k 0 (omega (arith, length-take n s))) (omega arith))
-      (cases_lt k n);
-}
-
-pub octets-drop : (n : ℕ) (s : List ℕ) → AreOctets s → AreOctets (drop n s)
-octets-drop n s of_s = record { small = λ k. rw (get_or-drop n s k 0) (of_s.small (n + k)) }
 
 zeros_at : (n k : ℕ) → get_or (replicate n 0) k 0 < 256
 zeros_at zero k = omega arith
@@ -33,7 +11,7 @@ zeros_at (suc n) zero = omega arith
 zeros_at (suc n) (suc k) = zeros_at n k
 
 pub octets-zeros : (n : ℕ) → AreOctets (replicate n 0)
-octets-zeros n = record { small = zeros_at n }
+octets-zeros n = zeros_at n
 
 byte_small : (i n : ℕ) → byte_at i n < 256
 byte_small zero n = omega arith
@@ -45,7 +23,7 @@ high_first_at (suc w) n zero = byte_small w n
 high_first_at (suc w) n (suc k) = high_first_at w n k
 
 pub octets-high_first : (w n : ℕ) → AreOctets (bytes_high_first w n)
-octets-high_first w n = record { small = high_first_at w n }
+octets-high_first w n = high_first_at w n
 
 -- ---- four parts, of which the first and the third have 8 octets, and the second ends at 8 * i
 

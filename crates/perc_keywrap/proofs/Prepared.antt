@@ -5,7 +5,9 @@ use Rattle.std.specs.Int.{w32, to_be_bytes, from_be_bytes}
 use Rattle.std.proofs.lemmas.Nat.{from_be_bytes-to_be_bytes_4}
 use Rattle.std.proofs.lemmas.List.{append-nil, drop_all, ext_get_or, get_or-take, get_or-drop, length-replicate, length-take-le, take_at, take_rest, drop_at, take-append-drop, drop-drop}
 use Rattle.perc_keywrap.specs.Wrap.{padded_length, prepared}
-use Rattle.perc_keywrap.proofs.Octets.{AreOctets, octets-append, octets-high_first, octets-zeros}
+use Rattle.perc_octets.specs.Octets.{AreOctets}
+use Rattle.perc_octets.proofs.Octets.{AreOctets-append}
+use Rattle.perc_keywrap.proofs.Octets.{octets-high_first, octets-zeros}
 use Rattle.perc_keywrap.proofs.Steps.{AreRegisters}
 
 abbrev pub constant : List ℕ
@@ -27,8 +29,8 @@ AreRegisters-prepared p octets =
     record {
       size = length-prepared p;
       octets =
-          octets-append (constant ++ to_be_bytes w32 n ++ p) (padding n)
-          (octets-append (constant ++ to_be_bytes w32 n) p (octets-append constant (to_be_bytes w32 n) (octets-high_first 4 0xa65959a6) (octets-high_first 4 n)) octets)
+          AreOctets-append (constant ++ to_be_bytes w32 n ++ p) (padding n)
+          (AreOctets-append (constant ++ to_be_bytes w32 n) p (AreOctets-append constant (to_be_bytes w32 n) (octets-high_first 4 0xa65959a6) (octets-high_first 4 n)) octets)
           (octets-zeros (padded_length n - n));
     }
 

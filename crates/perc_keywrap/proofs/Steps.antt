@@ -11,7 +11,9 @@ use Rattle.std.proofs.lemmas.List.FromFn.{get_or-map-range_with_len}
 use Rattle.perc_aes.specs.Cipher.{IsBlock, IsKey, add_round_key, aes, last_round}
 use Rattle.perc_aes.proofs.CipherLaws.{IsBlock-aes, aes_injective}
 use Rattle.perc_keywrap.specs.Wrap.{joined, put, numbered, step, round, rounds}
-use Rattle.perc_keywrap.proofs.Octets.{AreOctets, octets-append, octets-take, octets-drop, octets-high_first, part_1, part_2, part_3, part_4, parts}
+use Rattle.perc_octets.specs.Octets.{AreOctets}
+use Rattle.perc_octets.proofs.Octets.{AreOctets-append, AreOctets-take, AreOctets-drop}
+use Rattle.perc_keywrap.proofs.Octets.{octets-high_first, part_1, part_2, part_3, part_4, parts}
 
 -- ---- a number added to a block
 
@@ -63,7 +65,7 @@ pub IsBlock-numbered : (b : List ℕ) (t : ℕ) → IsBlock b → IsBlock (numbe
 IsBlock-numbered b t block = record {
   size = length-numbered b t block.size;
   octets = λ k.
-      ⊎_elim (λ (inside : k < 8). rw (numbered_front b t k inside) (xor_lt 8 (get_or b k 0) (get_or (to_be_bytes w64 t) k 0) (block.octets k) ((octets-high_first 8 t).small k)))
+      ⊎_elim (λ (inside : k < 8). rw (numbered_front b t k inside) (xor_lt 8 (get_or b k 0) (get_or (to_be_bytes w64 t) k 0) (block.octets k) (octets-high_first 8 t k)))
       (λ (past : 8 ≤ k). rw (numbered_back b t k past) (block.octets k))
       (cases_lt k 8);
 }
@@ -84,7 +86,7 @@ pub IsBlock-joined : (s : List ℕ) (i : ℕ) → AreOctets s → 8 * i + 8 ≤ 
 unfolding joined
 IsBlock-joined s i octets inside = record {
   size = length-joined s i inside;
-  octets = (octets-append (take 8 s) (take 8 (drop (8 * i) s)) (octets-take 8 s octets) (octets-take 8 (drop (8 * i) s) (octets-drop (8 * i) s octets))).small;
+  octets = AreOctets-append (take 8 s) (take 8 (drop (8 * i) s)) (AreOctets-take 8 s octets) (AreOctets-take 8 (drop (8 * i) s) (AreOctets-drop (8 * i) s octets));
 }
 
 -- the lengths of the parts of which put makes the registers
@@ -104,9 +106,9 @@ pub octets-put : (s : List ℕ) (i : ℕ) (b : List ℕ) → AreOctets s → Are
 unfolding put
 octets-put s i b of_s of_b =
     let p = take (8 * i - 8) (drop 8 s) in
-    octets-append (take 8 b ++ p ++ drop 8 b) (drop (8 * i + 8) s)
-    (octets-append (take 8 b ++ p) (drop 8 b) (octets-append (take 8 b) p (octets-take 8 b of_b) (octets-take (8 * i - 8) (drop 8 s) (octets-drop 8 s of_s))) (octets-drop 8 b of_b))
-    (octets-drop (8 * i + 8) s of_s)
+    AreOctets-append (take 8 b ++ p ++ drop 8 b) (drop (8 * i + 8) s)
+    (AreOctets-append (take 8 b ++ p) (drop 8 b) (AreOctets-append (take 8 b) p (AreOctets-take 8 b of_b) (AreOctets-take (8 * i - 8) (drop 8 s) (AreOctets-drop 8 s of_s))) (AreOctets-drop 8 b of_b))
+    (AreOctets-drop (8 * i + 8) s of_s)
 
 pub joined-put : (s : List ℕ) (i : ℕ) (b : List ℕ) → 1 ≤ i → 8 * i + 8 ≤ length s → length b ≡ 16 → joined (put s i b) i ≡ b
 unfolding joined put
@@ -202,7 +204,7 @@ AreRegisters-step key s n i t is are some inside =
     let block = IsBlock-numbered (aes key (joined s i)) t (IsBlock-aes key (joined s i) is (IsBlock-joined s i are.octets within)) in
     record {
       size = length-put s i (numbered (aes key (joined s i)) t) some within block.size ∙ are.size;
-      octets = octets-put s i (numbered (aes key (joined s i)) t) are.octets (record { small = block.octets });
+      octets = octets-put s i (numbered (aes key (joined s i)) t) are.octets block.octets;
     }
 
 -- a step keeps the length, whatever the key

@@ -8,7 +8,7 @@ use Rattle.std.proofs.lemmas.Slice.Eq.{bytes_eq-Decides}
 use Rattle.perc_aes.specs.Cipher.{IsKey}
 use Rattle.perc_keywrap.specs.Unwrap.{octets_of, texts, texts_up_to, unwrapped}
 use Rattle.perc_keywrap.specs.Wrap.{IsWrapped, wrapped}
-use Rattle.perc_keywrap.proofs.Octets.{AreOctets}
+use Rattle.perc_octets.specs.Octets.{AreOctets}
 use Rattle.perc_keywrap.proofs.WrapLaws.{length-wrapped-ge, length-wrapped-le, length-wrapped-whole, one_plain_text}
 
 -- ---- the octets of a number
@@ -33,18 +33,18 @@ number_small : (octets : List ℕ) → AreOctets octets → number_of octets < 2
 unfolding number_of
 number_small [] are = omega arith
 number_small (octet ∷ octets) are =
-    let rest : AreOctets octets = record { small = λ k. are.small (suc k) } in
+    let rest : AreOctets octets = λ k. are (suc k) in
     let next : 256 ^ length (octet ∷ octets) ≡ 256 ^ length octets * 256 = pow-suc 256 (length octets) in
-    omega (arith, are.small 0, number_small octets rest, next)
+    omega (arith, are 0, number_small octets rest, next)
 
 octets_of_number : (octets : List ℕ) → AreOctets octets → octets_of (length octets) (number_of octets) ≡ octets
 unfolding number_of octets_of
 octets_of_number [] are = refl
 octets_of_number (octet ∷ octets) are =
-    let rest : AreOctets octets = record { small = λ k. are.small (suc k) } in
+    let rest : AreOctets octets = λ k. are (suc k) in
     let number = number_of octets in
-    let low : (octet + 256 * number) % 256 ≡ octet = omega (arith, are.small 0) in
-    let high : (octet + 256 * number) / 256 ≡ number = omega (arith, are.small 0) in
+    let low : (octet + 256 * number) % 256 ≡ octet = omega (arith, are 0) in
+    let high : (octet + 256 * number) / 256 ≡ number = omega (arith, are 0) in
     ap (λ (x : ℕ). x ∷ octets_of (length octets) ((octet + 256 * number) / 256)) low
     ∙ ap (λ (x : ℕ). octet ∷ octets_of (length octets) x) high
     ∙ ap (λ (x : List ℕ). octet ∷ x) (octets_of_number octets rest)
@@ -95,7 +95,7 @@ are_texts (suc n) =
     (λ k. record {
       some = omega (arith, length-octets_of (suc n) k);
       few = omega (arith, length-octets_of (suc n) k);
-      octets = record { small = octets_of_at (suc n) k };
+      octets = octets_of_at (suc n) k;
     }))
 
 text_tried : (P : List ℕ → Type 0) (n : ℕ) (text : List ℕ) → IsText n text → Each P (texts_up_to n) → P text
@@ -155,7 +155,7 @@ unwrapped_is key octets plain found =
     record {
       some = passes.0.some;
       few = passes.0.few;
-      in_range = passes.0.octets.small;
+      in_range = passes.0.octets;
       value = (bytes_eq-Decides (wrapped key plain) octets).0 passes.1;
     }
 
@@ -164,7 +164,7 @@ pub none_wrapped : (key octets plain : List ℕ) → unwrapped key octets ≡ No
 unfolding unwrapped
 none_wrapped key octets plain none is =
     let fails : bytes_eq (wrapped key plain) octets ≡ false =
-    text_tried (λ x. bytes_eq (wrapped key x) octets ≡ false) 4096 plain (record { some = is.some; few = is.few; octets = record { small = is.in_range } })
+    text_tried (λ x. bytes_eq (wrapped key x) octets ≡ false) 4096 plain (record { some = is.some; few = is.few; octets = is.in_range })
     (none_passes (λ x. bytes_eq (wrapped key x) octets) (texts_up_to 4096) none) in
     let passes = (bytes_eq-Decides (wrapped key plain) octets).1 is.value in
     true_false (sym passes ∙ fails) where

@@ -6,7 +6,8 @@ use Rattle.std.proofs.lemmas.Bool.Decides.{nat_tests}
 use Rattle.perc_aes.specs.Cipher.{IsBlock, IsKey, aes}
 use Rattle.perc_aes.proofs.CipherLaws.{IsBlock-aes, aes_injective}
 use Rattle.perc_keywrap.specs.Wrap.{IsWrapped, count, prepared, rounds, wrapped, wrapped_length, wrapped_registers}
-use Rattle.perc_keywrap.proofs.Octets.{AreOctets, octets-take}
+use Rattle.perc_octets.specs.Octets.{AreOctets}
+use Rattle.perc_octets.proofs.Octets.{AreOctets-take}
 use Rattle.perc_keywrap.proofs.Prepared.{AreRegisters-prepared, length-prepared, prepared_injective}
 use Rattle.perc_keywrap.proofs.Steps.{AreRegisters, AreRegisters-steps, after_steps, length-aes, length-steps, rounds_flat, steps_injective}
 
@@ -29,7 +30,7 @@ registers_more key s n size more =
     ∙ ap (λ (t : ℕ). after_steps key n s t) all
 
 IsBlock-registers : (s : List ℕ) → AreRegisters s 1 → IsBlock s
-IsBlock-registers s are = record { size = are.size; octets = are.octets.small }
+IsBlock-registers s are = record { size = are.size; octets = are.octets }
 
 pub AreRegisters-wrapped : (key s : List ℕ) (n : ℕ) → IsKey key → 1 ≤ n → AreRegisters s n → AreRegisters (wrapped_registers key s) n
 AreRegisters-wrapped key s n is some are =
@@ -37,7 +38,7 @@ AreRegisters-wrapped key s n is some are =
     (λ (one : n ≡ 1).
     let two : AreRegisters s 1 = rw (sym one) are in
     let block = IsBlock-aes key s is (IsBlock-registers s two) in
-    rw (registers_two key s two.size, one) (record { size = block.size; octets = record { small = block.octets } }))
+    rw (registers_two key s two.size, one) (record { size = block.size; octets = block.octets }))
     (λ (more : n ≢ 1). rw (registers_more key s n are.size more) (AreRegisters-steps key s n (6 * n) is some are))
     (cases_eq n 1)
 
@@ -86,8 +87,8 @@ unfolding wrapped
 wrapped_in_range key plain octets is of_plain =
     let are : AreRegisters octets ((length plain + 7) / 8) =
     rw (sym of_plain.value)
-    (AreRegisters-wrapped key (prepared plain) ((length plain + 7) / 8) is (omega (arith, of_plain.some)) (AreRegisters-prepared plain (record { small = of_plain.in_range }))) in
-    are.octets.small
+    (AreRegisters-wrapped key (prepared plain) ((length plain + 7) / 8) is (omega (arith, of_plain.some)) (AreRegisters-prepared plain of_plain.in_range)) in
+    are.octets
 
 -- No two plain texts are wrapped to the same octets.
 pub one_plain_text : (key a b octets : List ℕ) → IsKey key → IsWrapped key a octets → IsWrapped key b octets → a ≡ b
@@ -97,20 +98,20 @@ one_plain_text key a b octets is of_a of_b =
     let size_b = length-wrapped key b octets of_b in
     let many : (length b + 7) / 8 ≡ (length a + 7) / 8 = omega arith in
     prepared_injective a b of_a.few of_b.few
-    (registers_injective key (prepared a) (prepared b) ((length a + 7) / 8) is (omega (arith, of_a.some)) (AreRegisters-prepared a (record { small = of_a.in_range }))
-    (rw many at (AreRegisters-prepared b (record { small = of_b.in_range })))
+    (registers_injective key (prepared a) (prepared b) ((length a + 7) / 8) is (omega (arith, of_a.some)) (AreRegisters-prepared a of_a.in_range)
+    (rw many at (AreRegisters-prepared b of_b.in_range))
     (of_a.value ∙ sym of_b.value))
 
 -- a plain text, and what it is wrapped to at the front of other octets
 pub is_wrapped : (key plain rest : List ℕ) (n : ℕ) → 1 ≤ length plain → length plain ≤ 4096 → AreOctets plain → n ≡ wrapped_length (length plain)
     → IsWrapped key plain (take n (wrapped key plain ++ rest))
 is_wrapped key plain rest n some few are size =
-    let whole : IsWrapped key plain (wrapped key plain) = record { some = some; few = few; in_range = are.small; value = refl } in
+    let whole : IsWrapped key plain (wrapped key plain) = record { some = some; few = few; in_range = are; value = refl } in
     let long : length (wrapped key plain) ≡ n = length-wrapped key plain (wrapped key plain) whole ∙ sym size in
     record {
       some = some;
       few = few;
-      in_range = are.small;
+      in_range = are;
       value = sym (take_at (wrapped key plain) rest n long);
     }
 
@@ -126,7 +127,7 @@ pub record AreFound (key registers octets : List ℕ) : Type 0 where
 pub registers_found : (key registers octets plain : List ℕ) → IsKey key → AreFound key registers octets → IsWrapped key plain octets → prepared plain ≡ registers
 unfolding wrapped
 registers_found key registers octets plain is found of_plain =
-    registers_injective key (prepared plain) registers ((length plain + 7) / 8) is (omega (arith, of_plain.some)) (AreRegisters-prepared plain (record { small = of_plain.in_range }))
+    registers_injective key (prepared plain) registers ((length plain + 7) / 8) is (omega (arith, of_plain.some)) (AreRegisters-prepared plain of_plain.in_range)
     (record { size = found.size ∙ length-wrapped key plain octets of_plain; octets = found.small })
     (of_plain.value ∙ sym found.value)
 
@@ -150,6 +151,6 @@ plain_found key registers octets now n found moved =
     record {
       some = omega arith;
       few = omega arith;
-      in_range = (octets-take n now moved.small).small;
+      in_range = AreOctets-take n now moved.small;
       value = ap (λ (p : List ℕ). wrapped_registers key (prepared p)) moved.same ∙ ap (λ (s : List ℕ). wrapped_registers key s) moved.begins ∙ found;
     }

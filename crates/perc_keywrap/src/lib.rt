@@ -70,6 +70,3 @@ pub fn unwrap(key: &AesKey, wrapped: &mut [u8]) -> Result<usize, UnwrapFault>
         }
     }
 }
-
-#[cfg(test)]
-mod tests;

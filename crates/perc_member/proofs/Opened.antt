@@ -22,7 +22,7 @@ use Rattle.perc_ekt.specs.Key.{plain_text}
 use Rattle.perc_ekt.proofs.Fields.{field_of_ok}
 use Rattle.perc_ekt.proofs.Keys.{plain-length, plain-octets}
 use Rattle.perc_ekt.proofs.Octets.{behind, octet_of, octets_of}
-use Rattle.perc_aes.specs.Octets.{AreOctets}
+use Rattle.perc_octets.specs.Octets.{AreOctets}
 use Rattle.perc_receiver.specs.Table.{IsSecret}
 use Rattle.perc_outgoing.specs.Sending.{IsSending, Outgoing, next_place, outer_index, sending_key, sent_datagram, sent_field, sent_header, sent_inner}
 use Rattle.perc_outgoing.proofs.Standing.{free_outer}

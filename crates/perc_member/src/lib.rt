@@ -6,8 +6,6 @@ mod datagram;
 mod key;
 mod member;
 mod opening;
-#[cfg(test)]
-mod tests;
 
 pub use datagram::{Datagram, Parts, Unsealed, relayed};
 pub use key::{Key, pair_in, salt_of};

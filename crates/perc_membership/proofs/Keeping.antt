@@ -19,7 +19,7 @@ use Rattle.perc_keyset.specs.declared.Op.{Op}
 use Rattle.perc_keyset.specs.declared.Op.TheVariants.{Add, Remove}
 use Rattle.perc_keyset.specs.Calls.{Call, AddCall, RemoveCall, after_call, after_calls}
 use Rattle.perc_keyset.specs.History.{adds}
-use Rattle.perc_keyset.specs.Publishing.{add_answer, after_add, most_adds, new_entry}
+use Rattle.perc_keyset.specs.Accepting.{add_answer, after_add, most_adds, new_entry}
 use Rattle.perc_keyset.specs.Set.{fold_ops, holds}
 use Rattle.perc_keyset.proofs.SetLaws.{adds-append}
 use Rattle.perc_keeper.specs.Lists.{Lists, is_member, member_of, newest, spi_of, with_issued, with_member, without_member}

@@ -19,11 +19,11 @@ use Rattle.perc_keyset.specs.declared.Op.{Op}
 use Rattle.perc_keyset.specs.declared.Op.TheVariants.{Add, Remove}
 use Rattle.perc_keyset.specs.Calls.{AddCall, RemoveCall, after_call}
 use Rattle.perc_keyset.specs.History.{adds, pairs_of}
-use Rattle.perc_keyset.specs.Publishing.{add_answer, after_add, gave, is_same, most_adds, new_entry, reused_by}
+use Rattle.perc_keyset.specs.Accepting.{add_answer, after_add, gave, is_same, most_adds, new_entry, reused_by}
 use Rattle.perc_keyset.specs.Set as set
 use Rattle.perc_keyset.specs.Set.{absorbed, entry_of, fold_ops, holds, most_entries, set_after}
 use Rattle.perc_keyset.proofs.SetLaws.{absorbed_fits, absorbed_removal, adds-append, set_after-append, without-none}
-use Rattle.perc_keyset.proofs.PublishingLaws.{decided}
+use Rattle.perc_keyset.proofs.AcceptingLaws.{decided}
 use Rattle.perc_keeper.specs.Lists as kept
 use Rattle.perc_keeper.specs.Lists.{Lists, is_member, member_of, was_given, with_member, without_member}
 use Rattle.perc_keydist.specs.Distributing.{repeats}

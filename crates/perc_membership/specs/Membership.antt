@@ -9,7 +9,7 @@ use Rattle.perc_keyset.specs.declared.Entry.{Entry}
 use Rattle.perc_keyset.specs.declared.Op.{Op}
 use Rattle.perc_keyset.specs.Calls.{Call, AddCall, RemoveCall, after_call, after_calls}
 use Rattle.perc_keyset.specs.History.{adds}
-use Rattle.perc_keyset.specs.Publishing.{add_answer, most_adds}
+use Rattle.perc_keyset.specs.Accepting.{add_answer, most_adds}
 use Rattle.perc_keyset.specs.Set.{fold_ops}
 use Rattle.perc_keydist.specs.Answers.{Answers}
 use Rattle.perc_keydist.specs.Distributing.{Event, Heard, Rolled, State, run_of, step}

@@ -9,7 +9,7 @@ use Rattle.std.proofs.lemmas.Nat.{be_bytes_2}
 use Rattle.byteorder.specs.Endian.{big_bytes, big_number}
 use Rattle.byteorder.specs.Numbers.{big_number-reads_back}
 use Rattle.perc_rtp.specs.Header.{bit}
-use Rattle.perc_rtp.proofs.Octets.{AreOctets}
+use Rattle.perc_octets.specs.Octets.{AreOctets}
 use Rattle.perc_ohb.specs.declared.block.Ohb.{Ohb}
 use Rattle.perc_ohb.specs.declared.block.OhbFault.{OhbFault}
 use Rattle.perc_ohb.specs.declared.block.OhbFault.TheVariants.{Empty, Reserved, Marker, Pt}

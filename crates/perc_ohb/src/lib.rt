@@ -4,8 +4,6 @@
 mod block;
 pub mod laws;
 mod rewriting;
-#[cfg(test)]
-mod tests;
 
 pub use block::{Ohb, OhbFault};
 pub use rewriting::{Change, ExtChange, restore, rewrite};

@@ -6,8 +6,6 @@ mod fault;
 pub mod laws;
 mod reaching;
 mod streams;
-#[cfg(test)]
-mod tests;
 
 pub use fault::OuterFault;
 pub use reaching::{Reached, reach};

@@ -14,7 +14,7 @@ use Rattle.perc_srtp.proofs.PacketLaws.{iv_injective, rtcp_iv_injective}
 use Rattle.perc_ekt.proofs.Octets.{four_spelled, octets_of}
 use Rattle.perc_sender.specs.Schedule.{take_answer}
 use Rattle.perc_sender.specs.declared.TakeFault.{TakeFault}
-use Rattle.perc_aes.specs.Octets.{AreOctets}
+use Rattle.perc_octets.specs.Octets.{AreOctets}
 use Rattle.perc_receiver.specs.Table.{Secret}
 use Rattle.perc_outgoing.specs.declared.fault.SendFault.{SendFault}
 use Rattle.perc_outgoing.specs.declared.fault.RtcpSendFault.{RtcpSendFault}

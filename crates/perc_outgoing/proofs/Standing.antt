@@ -15,7 +15,7 @@ use Rattle.perc_ekt.specs.declared.record.EktKeyRecord.{EktKeyRecord}
 use Rattle.perc_sender.specs.Schedule.{Sending, Taken, after_packet, newest, with_key}
 use Rattle.perc_sender.specs.Schedule as sender
 use Rattle.perc_sender.proofs.Keys.{newest_push}
-use Rattle.perc_aes.specs.Octets.{AreOctets}
+use Rattle.perc_octets.specs.Octets.{AreOctets}
 use Rattle.perc_receiver.specs.Table.{secret_in}
 use Rattle.perc_outgoing.specs.Sending.{IsSending, Outgoing, RunsBeside, after_rtcp, after_send, after_take, outer_index, started}
 use Rattle.perc_outgoing.specs.Kept.{Kept, StandsFor}

@@ -7,7 +7,7 @@ use Rattle.perc_rtp.specs.Media.{Content}
 use Rattle.perc_srtp.specs.Sealed.{iv, rtcp_iv, rtcp_ssrc}
 use Rattle.perc_sender.specs.Schedule.{take_answer}
 use Rattle.perc_sender.specs.declared.TakeFault.{TakeFault}
-use Rattle.perc_aes.specs.Octets.{AreOctets}
+use Rattle.perc_octets.specs.Octets.{AreOctets}
 use Rattle.perc_receiver.specs.Table.{Secret}
 use Rattle.perc_outgoing.specs.declared.fault.SendFault.{SendFault}
 use Rattle.perc_outgoing.specs.declared.fault.RtcpSendFault.{RtcpSendFault}

@@ -19,7 +19,7 @@ use Rattle.perc_ekt.specs.Key.{plain_text}
 use Rattle.perc_sender.specs.Schedule.{Sending, Taken, newest, place_under, after_packet, roll_over, with_key}
 use Rattle.perc_sender.specs.Schedule as sender
 use Rattle.perc_sender.specs.declared.SendPlace.{SendPlace}
-use Rattle.perc_aes.specs.Octets.{AreOctets}
+use Rattle.perc_octets.specs.Octets.{AreOctets}
 use Rattle.perc_receiver.specs.Table.{Secret, Row, Wrap, inner_keys}
 use Rattle.perc_outgoing.specs.declared.fault.SendFault.{SendFault}
 use Rattle.perc_outgoing.specs.declared.fault.SendFault.TheVariants as fault

@@ -6,8 +6,6 @@ mod fault;
 pub mod laws;
 mod parts;
 mod sending;
-#[cfg(test)]
-mod tests;
 
 pub use fault::{RtcpSendFault, SendFault};
 pub use sending::{Outgoing, Sent};

@@ -2,7 +2,7 @@
 -- field (RFC 8723 section 5.1, RFC 8870 section 4.1).
 use Rattle.std.specs.Prelude.{◌≡◌, ℕ, ◌%◌, ◌^◌, ◌<◌, ◌⊎◌, ◌==◌, nat_lt, List, ◌++◌, length, map, Option, None, All, AllPairs, MatchOption, find, take}
 use Rattle.std.specs.List.Sorted.{IsStrictlyIncreasing}
-use Rattle.perc_aes.specs.Octets.{AreOctets}
+use Rattle.perc_octets.specs.Octets.{AreOctets}
 use Rattle.perc_kdf.specs.Derivation.{KeyAndSalt, session_keys}
 use Rattle.perc_kdf.specs.declared.Kind.TheVariants.{Srtp}
 use Rattle.perc_rtp.specs.Header.{Header, IsHeader}

@@ -12,6 +12,3 @@ mod write;
 
 pub use reasons::{Denial, Loss, Refusal};
 pub use report::ReportLine;
-
-#[cfg(test)]
-mod tests;

@@ -5,14 +5,12 @@ use Rattle.std.proofs.lemmas.Bool.{cases_lt}
 use Rattle.std.proofs.lemmas.Nat.{be_bytes_2, be_bytes_4}
 use Rattle.std.proofs.lemmas.List.{drop-drop, get_or-drop, get_or-take, get_or_past, length-take, length-drop, take-append-drop}
 use Rattle.std.proofs.lemmas.List.Elements.{All-cons, All-nil, All-head, All-tail, All-from_get_or, All-get_or}
+use Rattle.perc_octets.specs.Octets.{AreOctets}
+use Rattle.perc_octets.proofs.Octets.{AreOctets-drop, AreOctets-take}
 use Rattle.byteorder.specs.Endian.{big_bytes, big_number}
 use Rattle.byteorder.specs.Numbers.{big_number-reads_back}
 use Rattle.perc_rtp.specs.Header.{IsOctet}
 use Rattle.perc_rtp.specs.Reading.{numbers}
-
--- each is an octet
-abbrev pub AreOctets : List ℕ → Type 0
-AreOctets xs = (i : ℕ) → get_or xs i 0 < 256
 
 pub AreOctets-all : (xs : List ℕ) → All IsOctet xs → AreOctets xs
 AreOctets-all xs h i =
@@ -23,19 +21,6 @@ AreOctets-all xs h i =
 
 pub all_octets : (xs : List ℕ) → AreOctets xs → All IsOctet xs
 all_octets xs h = All-from_get_or IsOctet xs 0 (λ i lt. h i)
-
-pub AreOctets-drop : (n : ℕ) (xs : List ℕ) → AreOctets xs → AreOctets (drop n xs)
-AreOctets-drop n xs h i = rw get_or-drop (h (n + i))
-
-pub AreOctets-take : (n : ℕ) (xs : List ℕ) → AreOctets xs → AreOctets (take n xs)
-AreOctets-take n xs h i =
-    elim (cases_lt i n) [
-      | inl lt ↦ rw (get_or-take n xs i 0 lt) (h i)
-      | inr le ↦ elim (cases_lt i (length (take n xs))) [
-        | inl lt ↦ absurd (omega (arith, length-take n xs))
-        | inr past ↦ rw (get_or_past (take n xs) i 0 past) (omega arith)
-      ]
-    ]
 
 -- two octets spell the number in them
 pub two_spelled : (xs : List ℕ) → 2 ≤ length xs → AreOctets xs → (big_bytes 2 (big_number 2 xs) ≡ take 2 xs) × (big_number 2 xs < 2 ^ 16)

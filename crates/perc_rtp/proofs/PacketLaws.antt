@@ -9,7 +9,8 @@ use Rattle.perc_rtp.specs.declared.head.RtpFault.{RtpFault}
 use Rattle.perc_rtp.specs.declared.head.RtpFault.TheVariants.{Short, Version, Extension}
 use Rattle.perc_rtp.specs.Header.{Header, IsOctet, IsPacket, IsShort, LacksExtension, spelling, version, cut_len}
 use Rattle.perc_rtp.specs.Reading.{cut_at, end_at, header_at, packet_of}
-use Rattle.perc_rtp.proofs.Octets.{AreOctets, AreOctets-all}
+use Rattle.perc_octets.specs.Octets.{AreOctets}
+use Rattle.perc_rtp.proofs.Octets.{AreOctets-all}
 use Rattle.perc_rtp.proofs.Reading.{packet_in, packet_again, cut_passes, passes_cut}
 
 -- what is read where the header has an end

@@ -13,7 +13,9 @@ use Rattle.perc_rtp.specs.declared.head.RtpFault.TheVariants.{Short, Version, Ex
 use Rattle.perc_rtp.specs.Header.{Header, bit, first_octet, second_octet, fixed_octets, extension_octets, spelling, IsOctet, IsExtension, IsHeader, IsPacket, version, cut_len, extension_end, head_of}
 use Rattle.perc_rtp.specs.Reading.{numbers, has_extension, extension_at, header_at, head_at, cut_at, end_at}
 use Rattle.perc_rtp.proofs.Writing.{fours_length, spelling-length}
-use Rattle.perc_rtp.proofs.Octets.{AreOctets, AreOctets-drop, AreOctets-take, two_spelled, four_spelled, numbers-length, numbers_spelled, numbers_again}
+use Rattle.perc_octets.specs.Octets.{AreOctets}
+use Rattle.perc_octets.proofs.Octets.{AreOctets-drop, AreOctets-take}
+use Rattle.perc_rtp.proofs.Octets.{two_spelled, four_spelled, numbers-length, numbers_spelled, numbers_again}
 
 -- ---- single bits
 

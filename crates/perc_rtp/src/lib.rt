@@ -6,8 +6,6 @@ mod fields;
 mod head;
 pub mod laws;
 mod media;
-#[cfg(test)]
-mod tests;
 
 pub use carried::{Carried, LONGEST_RTCP, RtcpHead, RtcpShape, kind};
 pub use fields::{cut_header, set_marker, set_pt, set_seq, without_padding};

@@ -14,6 +14,3 @@ pub use changes::{Changes, Replaced};
 pub use options::Options;
 pub use reason::Reason;
 pub use script::ScriptLine;
-
-#[cfg(test)]
-mod tests;

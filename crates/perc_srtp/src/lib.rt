@@ -7,8 +7,6 @@ pub mod laws;
 mod packet;
 mod rtcp;
 mod streams;
-#[cfg(test)]
-mod tests;
 
 pub use keys::{Keys, iv, rtcp_iv};
 pub use packet::{seal_at, seal_behind, unseal_at, unseal_behind};

@@ -7,8 +7,6 @@ mod forms;
 pub mod laws;
 mod message;
 mod parts;
-#[cfg(test)]
-mod tests;
 mod writing;
 
 pub use decoder::{Decoder, TunnelFault, TunnelReason};

@@ -5,8 +5,6 @@
 mod control;
 mod making;
 mod putting;
-#[cfg(test)]
-mod tests;
 
 pub use control::rtcp;
 pub use making::{Grafting, alter, graft, inject};

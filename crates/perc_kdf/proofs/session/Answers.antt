@@ -1,5 +1,5 @@
 use Rattle.std.proofs.Common.{ap, arith, length, subst}
-use Rattle.perc_aes.specs.Octets.{AreOctets}
+use Rattle.perc_octets.specs.Octets.{AreOctets}
 use Rattle.perc_kdf.proofs.SessionLaws.{IsSession-session_keys}
 use Rattle.perc_kdf.proofs.session.Goals as goal
 

@@ -17,7 +17,7 @@ returns-in-None-clause-check c =
         (unwrapped_none c.args.key.now c.args.wrapped.now).1 (λ plain of_plain.
             c.in-None.ensures.none plain of_plain.few
             (registers_found c.args.key.now registers c.args.wrapped.now plain c.unwrap_registers.ensures.key
-            (record { small = record { small = c.unwrap_registers.ensures.octets }; size = omega arith; value = c.unwrap_registers.ensures.value }) of_plain)),
+            (record { small = c.unwrap_registers.ensures.octets; size = omega arith; value = c.unwrap_registers.ensures.value }) of_plain)),
       ),
       λ _. refl,
     )
@@ -26,7 +26,7 @@ pub returns-in-Some-clause-ok : goal.returns-in-Some-clause-ok
 returns-in-Some-clause-ok c =
     let is : IsWrapped c.args.key.now (take c.in-Some.len c.move_down.new.octets) c.args.wrapped.now =
     plain_found c.args.key.now c.unwrap_registers.new.octets c.args.wrapped.now c.move_down.new.octets c.in-Some.len c.unwrap_registers.ensures.value (record {
-      small = record { small = λ k. omega (arith, c.type_inv.wrapped k) };
+      small = λ k. omega (arith, c.type_inv.wrapped k);
       some = c.in-Some.ensures.some.0;
       room = c.in-Some.ensures.some.1;
       few = omega arith;

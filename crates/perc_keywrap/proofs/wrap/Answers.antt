@@ -20,4 +20,4 @@ returns-clause-wrapped c =
     let n : ℕ = 8 + c.div_ceil.result * 8 in
     let size : n ≡ wrapped_length (length plain) = omega arith in
     subst (λ (octets : List ℕ). IsWrapped key plain (take n octets)) (sym (returns-clause-value c))
-    (is_wrapped key plain (drop n c.args.out.now) n (not_empty (length plain) c.if-is_empty.ensures) (omega arith) (record { small = λ k. omega (arith, c.type_inv.plain k) }) size)
+    (is_wrapped key plain (drop n c.args.out.now) n (not_empty (length plain) c.if-is_empty.ensures) (omega arith) (λ k. omega (arith, c.type_inv.plain k)) size)

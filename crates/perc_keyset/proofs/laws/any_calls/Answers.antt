@@ -1,4 +1,4 @@
-use Rattle.perc_keyset.proofs.PublishingLaws.{any_calls}
+use Rattle.perc_keyset.proofs.AcceptingLaws.{any_calls}
 use Rattle.perc_keyset.proofs.laws.any_calls.Goals as goal
 
 pub returns : goal.returns

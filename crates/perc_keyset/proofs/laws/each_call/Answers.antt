@@ -1,4 +1,4 @@
-use Rattle.perc_keyset.proofs.PublishingLaws.{each_call}
+use Rattle.perc_keyset.proofs.AcceptingLaws.{each_call}
 use Rattle.perc_keyset.proofs.laws.each_call.Goals as goal
 
 pub returns : goal.returns

@@ -1,7 +1,7 @@
 use Rattle.std.proofs.Common.{◌≡◌, ℕ, ◌⊎◌, Some, true, false, sym, ap, subst, ◌∙◌, arith}
 use Rattle.perc_ekt.specs.declared.record.EktKeyRecord.{EktKeyRecord}
 use Rattle.perc_ekt.specs.Record.{IsRecord, has_lengths, record_of}
-use Rattle.perc_ekt.proofs.Octets.{AreOctets, octets_of}
+use Rattle.perc_octets.specs.Octets.{AreOctets}
 use Rattle.perc_ekt.proofs.Records.{key-lengths, lengths_found, record_found, record_in, record_none}
 use Rattle.perc_ekt.proofs.record.EktKeyRecord.read.Goals as goal
 
@@ -16,7 +16,7 @@ pub returns-then-has_lengths-clause-right : goal.returns-then-has_lengths-clause
 returns-then-has_lengths-clause-right c =
     let bytes = c.args.bytes.now in
     let len = c.key_len-len.result in
-    let octets : AreOctets bytes = octets_of bytes (λ i. omega (arith, c.type_inv.bytes i)) in
+    let octets : AreOctets bytes = λ i. omega (arith, c.type_inv.bytes i) in
     let lengths : (len ≡ 16) ⊎ (len ≡ 32) = subst (λ (n : ℕ). (n ≡ 16) ⊎ (n ≡ 32)) (sym c.key_len-len.ensures) (key-lengths c.args.profile) in
     let right : has_lengths len bytes ≡ true = sym c.has_lengths.ensures ∙ c.if-has_lengths.true in
     let read = record_in bytes len octets (lengths_found len bytes lengths right) in

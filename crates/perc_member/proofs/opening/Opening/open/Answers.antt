@@ -1,7 +1,7 @@
 use Rattle.std.proofs.Common.{◌≡◌, ℕ, ◌+◌, ◌-◌, ◌<◌, ◌≤◌, List, length, take, drop, get_or, refl, sym, ap, ◌∙◌, arith}
 use Rattle.std.proofs.lemmas.List.{length-take, take_at}
 use Rattle.perc_double.specs.Double.{nothing_kept, opened}
-use Rattle.perc_aes.specs.Octets.{AreOctets}
+use Rattle.perc_octets.specs.Octets.{AreOctets}
 use Rattle.perc_outgoing.specs.Sending.{sent_header, sent_inner}
 use Rattle.perc_member.proofs.Opened.{field_stands, field_told, field_within, has_tag, index_below, opened_packet, opens_to, packet_stands, read_at, sealed_behind}
 use Rattle.perc_member.proofs.opening.Opening.open.Goals as goal

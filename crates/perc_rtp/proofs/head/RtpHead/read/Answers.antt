@@ -1,7 +1,7 @@
 use Rattle.std.proofs.Common.{◌≡◌, drop, length, Ok, sym, ap, ◌∙◌, arith, rules}
 use Rattle.perc_rtp.specs.Header.{Header, spelling, head_of}
 use Rattle.perc_rtp.specs.Reading.{header_at}
-use Rattle.perc_rtp.proofs.Octets.{AreOctets}
+use Rattle.perc_octets.specs.Octets.{AreOctets}
 use Rattle.perc_rtp.proofs.PacketLaws.{cut_refused, end_refused, packet_read}
 use Rattle.perc_rtp.proofs.Reading.{packet_in, packet_again, head_is, cut_passes, passes_cut, same_len}
 use Rattle.perc_rtp.proofs.head.RtpHead.read.Goals as goal

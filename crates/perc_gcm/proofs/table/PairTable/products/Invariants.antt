@@ -1,7 +1,0 @@
-use Rattle.perc_gcm.specs.Field.{product}
-use Rattle.perc_gcm.proofs.Multiples.{PairStepped}
-use Rattle.perc_gcm.proofs.table.PairTable.products.Given as goal
-
-abbrev pub invariant-loop-i : goal.invariant-loop-i
-invariant-loop-i l =
-    PairStepped (product l.self.once.whole.h l.self.once.whole.h) l.self.once.whole.h l.first l.second l.more l.rest l.sum l._i

@@ -1,0 +1,456 @@
+// Datagrams that were made outside, one after another, and endpoints that send to each other.
+ghost use Rattle.std.specs.Prelude.{◌≡◌, ◌^◌, ◌<◌, IfSome};
+ghost use Rattle.perc_base.specs.Profile.{key_length};
+ghost use Rattle.perc_ekt.specs.Record.{IsRecord};
+
+use perc_base::Profile;
+use perc_ekt::EktKeyRecord;
+use perc_endpoint::{Endpoint, GrantFault};
+use perc_incoming::Accepted;
+use perc_kdf::Master;
+use perc_ohb::OhbFault;
+use perc_outer::OuterFault;
+use perc_receiver::Refusal;
+use perc_rtp::{Media, RtpFault};
+use perc_srtp::RtcpFault;
+use std::alloc::Global;
+
+mod incoming;
+mod outer;
+mod outgoing;
+
+// What an accepted packet says: index, payload type, sequence number, marker, timestamp and payload.
+type Told = (u64, u8, u16, bool, u32, &'static [u8]);
+
+// A datagram, and what is answered.
+type Step = (&'static [u8], Result<Told, Refusal>);
+
+// Each refusal up to the block but that of one stream more, and inner octets too few for a tag.
+const OUTER: [Step; 15] = [
+    (b"", Err(Refusal::Outer(OuterFault::NoField))),
+    (b"\x01", Err(Refusal::Outer(OuterFault::EktType))),
+    (b"\x80\x02", Err(Refusal::Outer(OuterFault::EktLength))),
+    (
+        b"\x80\x60\x00\x00",
+        Err(Refusal::Outer(OuterFault::Rtp(RtpFault::Short))),
+    ),
+    (
+        b"\x40\x60\x00\x00\x00\x00\x00\x00\x11\x11\x11\x11\x00",
+        Err(Refusal::Outer(OuterFault::Rtp(RtpFault::Version))),
+    ),
+    (
+        b"\x90\x60\x00\x00\x00\x00\x00\x00\x11\x11\x11\x11\x00",
+        Err(Refusal::Outer(OuterFault::Rtp(RtpFault::Extension))),
+    ),
+    (
+        b"\x80\x60\x00\x00\x00\x00\x00\x00\x22\x22\x22\x22\x00",
+        Err(Refusal::Outer(OuterFault::OwnStream)),
+    ),
+    (
+        b"\x80\x60\x00\x00\x00\x00\x00\x00\x11\x11\x11\x11\x00\x00\x00\x00\x00\x00\x00\x00\x00\x00\x00\x00\x00\x00\x00\x00",
+        Err(Refusal::Outer(OuterFault::OuterShort)),
+    ),
+    (
+        b"\x80\x60\x00\x00\x00\x00\x00\x00\x11\x11\x11\x11\x00\x00\x00\x00\x00\x00\x00\x00\x00\x00\x00\x00\x00\x00\x00\x00\x00",
+        Err(Refusal::Outer(OuterFault::OuterTag)),
+    ),
+    (
+        b"\x80\x60\x00\x00\x00\x00\x00\x00\x11\x11\x11\x11\xd9\x2a\x88\x5a\x6e\xa9\x57\x5a\xdc\x31\x05\x55\xde\x18\x62\x5a\x00",
+        Err(Refusal::Outer(OuterFault::Ohb(OhbFault::Empty))),
+    ),
+    (
+        b"\x80\x60\x00\x01\x00\x00\x00\x00\x11\x11\x11\x11\x3e\x26\x63\x12\x0c\xe2\xff\x6d\x7f\x4a\xcd\xfd\x4a\x70\x67\x94\x7e\x00",
+        Err(Refusal::Outer(OuterFault::Ohb(OhbFault::Reserved))),
+    ),
+    (
+        b"\x80\x60\x00\x02\x00\x00\x00\x00\x11\x11\x11\x11\xb4\x78\x45\x3c\xdb\x87\x9a\x00\x53\x1d\x9e\x03\xc2\x7d\x30\xaf\x8a\x00",
+        Err(Refusal::Outer(OuterFault::Ohb(OhbFault::Marker))),
+    ),
+    (
+        b"\x80\x60\x00\x03\x00\x00\x00\x00\x11\x11\x11\x11\x25\xa5\x58\x74\x96\xa5\xb3\x5e\x3b\x06\x8d\x9b\xc9\xc8\x2a\xcd\x3c\x00",
+        Err(Refusal::Outer(OuterFault::Ohb(OhbFault::Short))),
+    ),
+    (
+        b"\x80\x60\x00\x04\x00\x00\x00\x00\x11\x11\x11\x11\xc8\x00\xb6\x7b\x68\x51\xa7\x42\x0b\x1b\xed\xd2\x05\xa9\x43\x39\x86\x94\x00",
+        Err(Refusal::Outer(OuterFault::Ohb(OhbFault::Pt))),
+    ),
+    (
+        b"\x80\x60\x00\x05\x00\x00\x00\x00\x11\x11\x11\x11\x2f\xb9\x8e\x2b\x1b\xd4\xcd\x97\x67\x96\x13\xed\x00\x32\x02\xb1\x11\x7d\x00",
+        Err(Refusal::InnerShort),
+    ),
+];
+
+// No key that is held or can be taken, and a key that isn't the packet's.
+const KEYS: [Step; 5] = [
+    (
+        b"\x80\x00\x03\xe8\x00\x00\x00\x00\x11\x11\x11\x11\x64\xa2\xc9\xda\x40\xc9\xd8\x71\xde\x5d\x62\xf2\x83\xaf\xba\x21\x48\xa9\x63\x6f\xd5\x27\x98\xc1\xff\x9f\x15\x3c\x58\x77\x7c\xc7\x33\x00",
+        Err(Refusal::NoContext),
+    ),
+    (
+        b"\x80\x00\x03\xe9\x00\x00\x00\x00\x11\x11\x11\x11\x90\x9e\xe7\x9b\xe8\x8c\x5a\xf4\x8d\x51\x37\xab\x2b\xb3\x2a\xe6\x53\x3a\x44\xf5\x13\x44\xf0\xa5\x3b\x30\xae\x77\xce\x9a\xa7\xe2\x6c\x68\xd4\x18\x66\xf1\x36\xad\x45\x66\x52\x66\x51\x96\xb9\x34\xe2\x53\xb5\xe7\xfc\x8d\xfb\xda\xb8\x1c\x92\x3b\x54\x03\x4c\x60\xe9\x9c\xc7\x9d\x23\x16\x5b\xf7\xa2\x00\x02\x00\x00\x00\x2f\x02",
+        Err(Refusal::SpiUnknown(2)),
+    ),
+    (
+        b"\x80\x00\x03\xea\x00\x00\x00\x00\x11\x11\x11\x11\x63\xd8\x11\xd9\x53\x6d\x23\x91\x5f\x37\x32\x9e\x0d\x33\xf9\xb6\x2a\xec\xa1\x17\x17\x8d\x5a\x38\x17\x99\x8f\x6c\x7a\xa2\x28\x1a\xa0\x68\xd4\x18\x66\xf1\x36\xad\x45\x66\x52\x66\x51\x96\xb9\x34\xe2\x53\xb5\xe7\xfc\x8d\xfb\xda\xb8\x1c\x92\x3b\x55\x03\x4c\x60\xe9\x9c\xc7\x9d\x23\x16\x5b\xf7\xa2\x00\x01\x00\x00\x00\x2f\x02",
+        Err(Refusal::Unwrap),
+    ),
+    (
+        b"\x80\x00\x03\xeb\x00\x00\x00\x00\x11\x11\x11\x11\x5a\x90\xe3\x45\xb1\x14\x21\xa7\x2b\xff\xc5\xbc\xa6\xf8\x9a\x94\x16\xff\x34\xa8\x62\x3d\x4c\xdc\xef\x64\xde\x66\xae\x83\x9a\x59\xb2\xf0\x07\xd7\xa2\x73\x35\xe4\xd0\xa4\x0f\x33\xde\x73\x18\x7c\x61\x24\x37\xe0\xaf\x45\x13\xc2\x63\x00\x01\x00\x00\x00\x1f\x02",
+        Err(Refusal::EktPlain),
+    ),
+    (
+        b"\x80\x00\x03\xec\x00\x00\x00\x00\x11\x11\x11\x11\xbf\xdf\xf9\x8c\x11\x38\xef\x2c\x79\x05\xd1\x98\x89\x82\xf7\x33\xaa\x15\x38\x24\xa7\x60\x00\x3e\x64\x61\xa9\x99\xf7\x46\xf9\x8c\x05\x68\xd4\x18\x66\xf1\x36\xad\x45\x66\x52\x66\x51\x96\xb9\x34\xe2\x53\xb5\xe7\xfc\x8d\xfb\xda\xb8\x1c\x92\x3b\x54\x03\x4c\x60\xe9\x9c\xc7\x9d\x23\x16\x5b\xf7\xa2\x00\x01\x00\x00\x00\x2f\x02",
+        Err(Refusal::InnerTag),
+    ),
+];
+
+// Padding that counts none of its octets, or more than there are; padding that comes off; the packet again at another outer index;
+// and the next with a field of another sender, which is dropped.
+const PADDED: [Step; 5] = [
+    (
+        b"\xa0\x00\x03\xed\x00\x00\x00\x00\x11\x11\x11\x11\x8e\x26\x4d\x76\xe1\x6e\x96\x7f\x1e\x60\x6b\xc9\x5d\x53\xbb\x00\x4c\x11\xae\xdf\x13\x81\xe8\xad\xb0\x42\x4b\xaa\xba\x6f\xc8\xf3\x5f\xaa\x9e\xf8\x94\x68\xd4\x18\x66\xf1\x36\xad\x45\x66\x52\x66\x51\x96\xb9\x34\xe2\x53\xb5\xe7\xfc\x8d\xfb\xda\xb8\x1c\x92\x3b\x54\x03\x4c\x60\xe9\x9c\xc7\x9d\x23\x16\x5b\xf7\xa2\x00\x01\x00\x00\x00\x2f\x02",
+        Err(Refusal::Padding),
+    ),
+    (
+        b"\xa0\x00\x03\xee\x00\x00\x00\x00\x11\x11\x11\x11\xf6\x13\x25\x16\x02\x5d\xca\xee\x84\x45\x81\x50\xe4\x19\x52\x12\xca\x53\x29\x43\x2c\x6a\x9c\xf6\x77\x2b\xfe\x53\xac\x22\xdd\xa2\xb4\xb2\xb8\x7d\x40\x68\xd4\x18\x66\xf1\x36\xad\x45\x66\x52\x66\x51\x96\xb9\x34\xe2\x53\xb5\xe7\xfc\x8d\xfb\xda\xb8\x1c\x92\x3b\x54\x03\x4c\x60\xe9\x9c\xc7\x9d\x23\x16\x5b\xf7\xa2\x00\x01\x00\x00\x00\x2f\x02",
+        Err(Refusal::Padding),
+    ),
+    (
+        b"\xa0\x00\x03\xef\x00\x00\x00\x00\x11\x11\x11\x11\x9b\x67\xc1\x23\xf7\x21\xf0\xd7\xf7\x39\x5d\x8e\x96\xd0\xcc\x6f\xe0\x9c\x06\x76\x31\xc8\xf9\xe3\xbc\xdc\x60\x1c\xba\xf7\xeb\xed\x3e\xf3\x3d\x27\x6d\xf8\x68\xd4\x18\x66\xf1\x36\xad\x45\x66\x52\x66\x51\x96\xb9\x34\xe2\x53\xb5\xe7\xfc\x8d\xfb\xda\xb8\x1c\x92\x3b\x54\x03\x4c\x60\xe9\x9c\xc7\x9d\x23\x16\x5b\xf7\xa2\x00\x01\x00\x00\x00\x2f\x02",
+        Ok((1007, 0, 1007, false, 0, b"\x61\x62\x63")),
+    ),
+    (
+        b"\xa0\x00\x03\xf2\x00\x00\x00\x00\x11\x11\x11\x11\xc3\x5d\x6a\x7f\x1e\x84\x63\x72\xa9\x5a\xd4\x4c\x4e\xfa\x1c\xa0\x66\x1e\xa7\x3c\xfd\x61\xa6\x64\x5b\x03\x85\xa9\xf5\x2e\xee\x53\x72\x7c\x76\x7f\xcb\x39\x30\x3f\x68\xd4\x18\x66\xf1\x36\xad\x45\x66\x52\x66\x51\x96\xb9\x34\xe2\x53\xb5\xe7\xfc\x8d\xfb\xda\xb8\x1c\x92\x3b\x54\x03\x4c\x60\xe9\x9c\xc7\x9d\x23\x16\x5b\xf7\xa2\x00\x01\x00\x00\x00\x2f\x02",
+        Err(Refusal::InnerRepeated),
+    ),
+    (
+        b"\x80\x00\x03\xf3\x00\x00\x00\x00\x11\x11\x11\x11\x7f\x22\xb3\x19\xd1\x9a\xa4\xa8\x54\xdc\xd1\xda\x22\x64\x6a\x56\x9c\x91\x60\x69\x0a\x77\x47\xb4\x63\x2e\xb7\x56\xcc\x93\x7b\x9a\xba\xd3\x76\x1b\x77\x10\x57\xcd\xa3\xdd\x34\x7b\x02\xfe\xe3\x88\xc5\xa0\xb2\xe9\x0a\x2f\xc5\xe6\xc2\x2e\x94\xee\x7a\xd9\x9f\xb6\xfd\xad\xe2\x60\xff\x2c\xa9\x40\xbb\x5a\x00\x01\x00\x00\x00\x2f\x02",
+        Ok((1011, 0, 1011, false, 0, b"\xaa")),
+    ),
+];
+
+// Packets behind the windows of both layers.
+const WINDOWS: [Step; 5] = [
+    (
+        b"\x80\x00\x03\xf3\x00\x00\x00\x00\x11\x11\x11\x11\x7f\x22\xb3\x19\xd1\x9a\xa4\xa8\x54\xdc\xd1\xda\x22\x64\x6a\x56\x9c\x91\x60\x69\x0a\x77\x47\xb4\x63\x2e\xb7\x56\xcc\x93\x7b\x9a\xba\xd3\x68\xd4\x18\x66\xf1\x36\xad\x45\x66\x52\x66\x51\x96\xb9\x34\xe2\x53\xb5\xe7\xfc\x8d\xfb\xda\xb8\x1c\x92\x3b\x54\x03\x4c\x60\xe9\x9c\xc7\x9d\x23\x16\x5b\xf7\xa2\x00\x01\x00\x00\x00\x2f\x02",
+        Ok((1011, 0, 1011, false, 0, b"\xaa")),
+    ),
+    (
+        b"\x80\x00\x04\xb0\x00\x00\x00\x00\x11\x11\x11\x11\x0f\x6f\xe3\x04\x39\x6f\x63\xea\xe0\xe7\x43\x34\x1f\x5d\x9a\xf0\xf9\xbf\x77\x1a\xf7\x07\x52\x09\x51\xa5\x44\x70\xe7\x8e\x56\x44\x7c\xba\x00",
+        Ok((1200, 0, 1200, false, 0, b"\xbb")),
+    ),
+    (
+        b"\x80\x00\x03\xfc\x00\x00\x00\x00\x11\x11\x11\x11\x36\x0d\x84\xd5\x6f\x5b\x6f\x3b\x1a\xe1\x8f\x5c\x67\xac\x5e\x8c\x3d\x44\x11\xb6\xda\x31\xa8\x74\xe1\xf2\x18\xfa\x90\xc6\x1f\x26\x09\xe1\x00",
+        Err(Refusal::Outer(OuterFault::OuterOld)),
+    ),
+    (
+        b"\x80\x00\x04\xb0\x00\x00\x00\x00\x11\x11\x11\x11\x0f\x6f\xe3\x04\x39\x6f\x63\xea\xe0\xe7\x43\x34\x1f\x5d\x9a\xf0\xf9\xbf\x77\x1a\xf7\x07\x52\x09\x51\xa5\x44\x70\xe7\x8e\x56\x44\x7c\xba\x00",
+        Err(Refusal::Outer(OuterFault::OuterRepeated)),
+    ),
+    (
+        b"\x80\x00\x04\xb1\x00\x00\x00\x00\x11\x11\x11\x11\x09\xfe\xbb\xda\x46\x33\xd6\x3b\x1b\x1f\xdb\x56\x3d\x0e\x35\x83\x84\x10\xde\x81\x9c\x50\xd6\x0f\xca\x76\x8f\x69\x77\x47\xcd\xd9\x63\x0b\x50\x68\xd4\x18\x66\xf1\x36\xad\x45\x66\x52\x66\x51\x96\xb9\x34\xe2\x53\xb5\xe7\xfc\x8d\xfb\xda\xb8\x1c\x92\x3b\x54\x03\x4c\x60\xe9\x9c\xc7\x9d\x23\x16\x5b\xf7\xa2\x00\x01\x00\x00\x00\x2f\x02",
+        Err(Refusal::InnerOld),
+    ),
+];
+
+// A packet, one under the next key, and the first again under a new outer index, which resets no window.
+const REKEYED: [Step; 3] = [
+    (
+        b"\x80\x00\x03\xe8\x00\x00\x00\x00\x11\x11\x11\x11\x39\x60\xf2\xa5\x20\x29\x44\x36\xd6\xf0\x23\x64\xdb\xe0\x6e\xf6\x5a\x19\x44\xf7\x6f\x48\x6b\x9e\xb7\x78\x6f\x5f\xaa\xf1\x93\x75\x98\x23\x68\xd4\x18\x66\xf1\x36\xad\x45\x66\x52\x66\x51\x96\xb9\x34\xe2\x53\xb5\xe7\xfc\x8d\xfb\xda\xb8\x1c\x92\x3b\x54\x03\x4c\x60\xe9\x9c\xc7\x9d\x23\x16\x5b\xf7\xa2\x00\x01\x00\x00\x00\x2f\x02",
+        Ok((1000, 0, 1000, false, 0, b"\xaa")),
+    ),
+    (
+        b"\x80\x00\x03\xe9\x00\x00\x00\x01\x11\x11\x11\x11\x60\xfe\xdc\xc6\x66\x47\xdc\x7c\x5c\x29\x7d\x05\x11\xe2\xb0\xbe\x3b\xee\x7d\x7c\xa1\x28\x35\xc6\xec\x84\x04\x81\xd6\xe3\xb6\xc8\xfc\x4a\x27\x08\x5e\xec\x50\x4d\x06\x0f\x7e\x9e\xb1\xab\xdf\x1f\xc3\x2a\x1c\x60\x26\x15\x9d\x77\x5e\xa1\xba\x28\x8f\xd6\x8a\xd6\xff\xe0\xbd\x91\x8a\xe7\x94\xbf\xf3\x9a\x00\x01\x00\x01\x00\x2f\x02",
+        Ok((1001, 0, 1001, false, 1, b"\xbb")),
+    ),
+    (
+        b"\x80\x00\x03\xf2\x00\x00\x00\x00\x11\x11\x11\x11\x17\xe6\xf2\x86\x5e\x17\x99\x51\xc4\x7c\x50\x7d\x1a\x1d\x82\xd0\x85\xd2\x10\x63\x97\x4f\x3f\x6a\x2c\x0d\x86\xa6\x54\xf8\x98\xca\x98\x21\x2d\x09\x68\xd4\x18\x66\xf1\x36\xad\x45\x66\x52\x66\x51\x96\xb9\x34\xe2\x53\xb5\xe7\xfc\x8d\xfb\xda\xb8\x1c\x92\x3b\x54\x03\x4c\x60\xe9\x9c\xc7\x9d\x23\x16\x5b\xf7\xa2\x00\x01\x00\x00\x00\x2f\x02",
+        Err(Refusal::InnerRepeated),
+    ),
+];
+
+// The first datagram of an endpoint, and as a distributor sends it on.
+const FIRST: [(Profile, &[u8], &[u8]); 2] = [
+    (
+        Profile::Aes128,
+        b"\x80\xe0\x03\xe8\x00\x00\x00\xa0\x11\x11\x11\x11\xf2\xf3\x56\x33\x09\xdd\x10\x44\x84\x6e\xb8\x35\xd5\x7d\xe8\xdf\x94\x2a\xb4\xc7\x7e\xa1\xa3\xa1\x65\x8a\x8e\x53\x5d\xcf\x60\x3b\x0e\x4b\x30\x8c\x68\xd4\x18\x66\xf1\x36\xad\x45\x66\x52\x66\x51\x96\xb9\x34\xe2\x53\xb5\xe7\xfc\x8d\xfb\xda\xb8\x1c\x92\x3b\x54\x03\x4c\x60\xe9\x9c\xc7\x9d\x23\x16\x5b\xf7\xa2\x00\x01\x00\x00\x00\x2f\x02",
+        b"\x80\x64\x03\xed\x00\x00\x00\xa0\x11\x11\x11\x11\x45\x83\x3f\x98\x1f\xab\x82\x4f\x80\xde\x7e\x67\xaf\xf2\x65\xe6\xe7\xe0\x96\x10\x10\xc8\x7b\x33\xc8\x3a\xe9\x27\xfb\x94\x09\x38\x36\xe1\xd8\x60\x65\x92\x69\x68\xd4\x18\x66\xf1\x36\xad\x45\x66\x52\x66\x51\x96\xb9\x34\xe2\x53\xb5\xe7\xfc\x8d\xfb\xda\xb8\x1c\x92\x3b\x54\x03\x4c\x60\xe9\x9c\xc7\x9d\x23\x16\x5b\xf7\xa2\x00\x01\x00\x00\x00\x2f\x02",
+    ),
+    (
+        Profile::Aes256,
+        b"\x80\xe0\x03\xe8\x00\x00\x00\xa0\x11\x11\x11\x11\xf3\x7b\xb3\x44\x6e\xba\xb4\xa0\xf7\x67\x54\xa3\x91\xfc\xa2\x2c\x68\x60\xc9\x35\x4f\x83\xee\xf8\xbc\x53\x59\x59\x0c\xbc\xdc\x8d\x57\x30\x1a\x07\xff\x75\xfb\x64\x7e\x38\x1b\xb8\x39\x0f\x0d\x73\xf1\xbb\x05\x7f\xbc\xad\xfb\xff\xe2\x43\x8b\xcf\x94\xe4\x76\x91\xde\x93\xb9\x18\x2a\xb8\xf7\x59\x0d\x9b\xb4\xaa\x6f\xcb\x25\x55\x28\x17\x40\x79\x15\xa6\x39\x08\x3c\x81\xff\x0c\x00\x01\x00\x00\x00\x3f\x02",
+        b"\x80\x64\x03\xed\x00\x00\x00\xa0\x11\x11\x11\x11\xc9\x80\xd4\x66\x50\xce\xf1\x43\x2b\xed\xa9\x4d\x47\x93\x83\x76\x92\x7f\x43\xab\x13\xa5\x7f\xea\x28\xa4\xa3\x5f\x1a\x45\x1f\x4e\x26\x6f\xdd\xb9\x63\x83\xd7\xff\x75\xfb\x64\x7e\x38\x1b\xb8\x39\x0f\x0d\x73\xf1\xbb\x05\x7f\xbc\xad\xfb\xff\xe2\x43\x8b\xcf\x94\xe4\x76\x91\xde\x93\xb9\x18\x2a\xb8\xf7\x59\x0d\x9b\xb4\xaa\x6f\xcb\x25\x55\x28\x17\x40\x79\x15\xa6\x39\x08\x3c\x81\xff\x0c\x00\x01\x00\x00\x00\x3f\x02",
+    ),
+];
+
+const HELLO: Media<'static> = Media {
+    pt: 96,
+    marker: true,
+    timestamp: 160,
+    csrcs: &[],
+    extension: None,
+    payload: b"abc",
+    pad: 0,
+};
+
+// The record of an EKT key under this SPI.
+fn granted(profile: Profile, spi: u16) -> EktKeyRecord
+    ensures right { IsRecord result }
+    ensures len { result.len ≡ key_length profile }
+{
+    let mut key = [0; 32];
+    let len = profile.key_len();
+    key[..len].fill(1);
+    EktKeyRecord {
+        key,
+        len,
+        salt: [2; 12],
+        spi,
+        life: 0,
+    }
+}
+
+// An endpoint whose first packet has this index, and whose outer masters and key are of these octets.
+fn started(
+    alloc: Global,
+    profile: Profile,
+    ssrc: u32,
+    first: u64,
+    client: u8,
+    server: u8,
+    key: u8,
+) -> Option<Endpoint>
+    requires { first < 2 ^ 48 }
+    ensures { IfSome result (λ endpoint. endpoint.receiving.profile ≡ profile) }
+{
+    let granted = granted(profile, 1);
+    let len = profile.key_len();
+    let client = Master::new(&[client; 32][..len], &[client; 12])?;
+    let server = Master::new(&[server; 32][..len], &[server; 12])?;
+    let key = &[key; 32][..len];
+    Endpoint::start(alloc, profile, ssrc, first, &client, &server, &granted, key).ok()
+}
+
+// Who gets the datagrams that were made outside.
+fn receiver(alloc: Global, profile: Profile) -> Option<Endpoint>
+    ensures { IfSome result (λ endpoint. endpoint.receiving.profile ≡ profile) }
+{
+    started(alloc, profile, 0x22222222, 2000, 0xc3, 0xc4, 0xd2)
+}
+
+// Whether an accepted packet says this.
+fn says(accepted: &Accepted<'_>, told: &Told) -> bool {
+    (accepted.ssrc, accepted.spi) == (0x11111111, 1)
+        && (accepted.index, accepted.pt) == (told.0, told.1)
+        && (accepted.seq, accepted.marker) == (told.2, told.3)
+        && accepted.timestamp == told.4
+        && accepted.payload == told.5
+}
+
+// Whether a datagram is answered so.
+fn is_answered(endpoint: &mut Endpoint, datagram: &[u8], want: &Result<Told, Refusal>) -> bool {
+    let mut octets = [0; 128];
+    let len = datagram.len().min(128);
+    octets[..len].copy_from_slice(&datagram[..len]);
+    match (endpoint.receive(&mut octets[..len]), want) {
+        (Ok(accepted), Ok(told)) => says(&accepted, told),
+        (Err(refusal), Err(wanted)) => refusal == *wanted,
+        _ => false,
+    }
+}
+
+// The number of the first of these datagrams that one endpoint after another doesn't answer so.
+fn first_wrong(alloc: Global, steps: &[Step]) -> Option<usize> {
+    let Some(mut endpoint) = receiver(alloc, Profile::Aes128) else {
+        return Some(0);
+    };
+    for (i, (datagram, want)) in steps.iter().enumerate() {
+        if !is_answered(&mut endpoint, datagram, want) {
+            return Some(i);
+        }
+    }
+    None
+}
+
+#[test]
+fn refused_outside(rt: HostRuntime) {
+    assert_eq!(rt; first_wrong(rt.alloc(), &OUTER), None);
+}
+
+#[test]
+fn refused_for_keys(rt: HostRuntime) {
+    assert_eq!(rt; first_wrong(rt.alloc(), &KEYS), None);
+}
+
+#[test]
+fn padded(rt: HostRuntime) {
+    assert_eq!(rt; first_wrong(rt.alloc(), &PADDED), None);
+}
+
+#[test]
+fn behind_windows(rt: HostRuntime) {
+    assert_eq!(rt; first_wrong(rt.alloc(), &WINDOWS), None);
+}
+
+#[test]
+fn rekeyed(rt: HostRuntime) {
+    assert_eq!(rt; first_wrong(rt.alloc(), &REKEYED), None);
+}
+
+// Whether the first datagram that is sent is this.
+fn sends_first(endpoint: &mut Endpoint, datagram: &[u8]) -> bool {
+    let mut out = [0; 1500];
+    match endpoint.send(&HELLO, &mut out) {
+        Ok(sent) => &out[..sent.len] == datagram && sent.index == 1000,
+        Err(_) => false,
+    }
+}
+
+#[test]
+fn first_datagrams(rt: HostRuntime) {
+    for (profile, up, down) in &FIRST {
+        let mut sender = started(rt.alloc(), *profile, 0x11111111, 1000, 0xc1, 0xc2, 0xd1).expect(
+            &rt,
+            "there is memory",
+        );
+        assert!(rt; sends_first(&mut sender, up));
+        let mut receiver = receiver(rt.alloc(), *profile).expect(&rt, "there is memory");
+        let told = (1000, 96, 1000, true, 160, b"abc".as_slice());
+        assert!(rt; is_answered(&mut receiver, down, &Ok(told)));
+    }
+}
+
+// What one endpoint makes of the next datagram of another: nothing where it accepts it.
+fn hand_over(sender: &mut Endpoint, receiver: &mut Endpoint) -> Option<Refusal>
+    ensures sender { sender.new.receiving.profile ≡ sender.old.receiving.profile }
+    ensures receiver { receiver.new.receiving.profile ≡ receiver.old.receiving.profile }
+{
+    let mut out = [0; 1500];
+    let Ok(sent) = sender.send(&HELLO, &mut out) else {
+        return Some(Refusal::Padding);
+    };
+    receiver.receive(&mut out[..sent.len]).err()
+}
+
+// Gives an endpoint the keys from one number on, and hands over a packet under each.
+fn hand_keys_over(
+    sender: &mut Endpoint,
+    receiver: &mut Endpoint,
+    first: u8,
+    last: u8,
+) -> Option<Refusal>
+    requires { sender.old.receiving.profile ≡ Profile.Aes128 }
+    ensures { sender.new.receiving.profile ≡ Profile.Aes128 }
+{
+    for key in first..last {
+        let _ = sender.rekey(&[key; 16]);
+        let refusal = hand_over(sender, receiver);
+        if refusal.is_some() {
+            return refusal;
+        }
+    }
+    None
+}
+
+// 64 keys of an SSRC under an SPI are taken, and held.
+#[test]
+fn keys_of_one_sender(rt: HostRuntime) {
+    let mut sender = started(rt.alloc(), Profile::Aes128, 0x11111111, 1000, 0xc4, 0xc2, 0).expect(
+        &rt,
+        "there is memory",
+    );
+    let mut receiver = receiver(rt.alloc(), Profile::Aes128).expect(&rt, "there is memory");
+    assert_eq!(rt; hand_keys_over(&mut sender, &mut receiver, 0, 64), None);
+    assert_eq!(rt; sender.rekey(&[64; 16]), Err(GrantFault::KeyLimit));
+    let mut other = started(
+        rt.alloc(),
+        Profile::Aes128,
+        0x11111111,
+        2000,
+        0xc4,
+        0xc2,
+        64,
+    )
+    .expect(&rt, "there is memory");
+    assert_eq!(rt;
+        hand_over(&mut other, &mut receiver),
+        Some(Refusal::KeyLimit)
+    );
+}
+
+// Hands over the first packet of so many endpoints, and answers how many were accepted before the first refusal.
+fn streams_accepted(alloc: Global, receiver: &mut Endpoint, count: u32) -> Option<(u32, Refusal)> {
+    for i in 0..count {
+        let mut sender = started(alloc, Profile::Aes128, i, 1000, 0xc4, 0xc2, 1)?;
+        if let Some(refusal) = hand_over(&mut sender, receiver) {
+            return Some((i, refusal));
+        }
+    }
+    None
+}
+
+#[test]
+fn streams(rt: HostRuntime) {
+    let mut receiver = receiver(rt.alloc(), Profile::Aes128).expect(&rt, "there is memory");
+    assert_eq!(rt;
+        streams_accepted(rt.alloc(), &mut receiver, 257),
+        Some((256, Refusal::Outer(OuterFault::StreamLimit)))
+    );
+}
+
+// What is answered to an EKT key under this SPI, and a key of its own.
+fn taken(endpoint: &mut Endpoint, spi: u16, key: u8) -> Result<(), GrantFault>
+    requires { endpoint.old.receiving.profile ≡ Profile.Aes128 }
+    ensures { endpoint.new.receiving.profile ≡ Profile.Aes128 }
+{
+    let next = granted(Profile::Aes128, spi);
+    endpoint.take_ekt(&next, &[key; 16])
+}
+
+// A refused grant leaves the SPIs, and the fourth behind the first retires it.
+#[test]
+fn grants(rt: HostRuntime) {
+    let mut endpoint = receiver(rt.alloc(), Profile::Aes128).expect(&rt, "there is memory");
+    let mut sender = started(rt.alloc(), Profile::Aes128, 0x11111111, 1000, 0xc4, 0xc2, 1).expect(
+        &rt,
+        "there is memory",
+    );
+    assert_eq!(rt; taken(&mut endpoint, 1, 0xd2), Err(GrantFault::SpiOld(1)));
+    assert_eq!(rt; taken(&mut endpoint, 2, 2), Ok(()));
+    assert_eq!(rt; taken(&mut endpoint, 3, 3), Ok(()));
+    assert_eq!(rt; taken(&mut endpoint, 4, 4), Ok(()));
+    assert_eq!(rt; taken(&mut endpoint, 5, 4), Err(GrantFault::KeyRepeated));
+    assert_eq!(rt; hand_over(&mut sender, &mut endpoint), None);
+    assert_eq!(rt; endpoint.rekey(&[5; 16]), Ok(1));
+    assert_eq!(rt; taken(&mut endpoint, 5, 6), Ok(()));
+    assert_eq!(rt;
+        hand_over(&mut sender, &mut endpoint),
+        Some(Refusal::SpiUnknown(1))
+    );
+}
+
+// Whether an RTCP packet is sealed as these octets, and opened once.
+fn goes_over(sender: &mut Endpoint, receiver: &mut Endpoint, sealed: &[u8; 28]) -> bool {
+    let plain = b"\x80\xc9\x00\x01\x11\x11\x11\x11";
+    let mut out = [0; 1500];
+    let Ok(len) = sender.send_rtcp(plain, &mut out) else {
+        return false;
+    };
+    let packet = &mut out[..len];
+    let mut again = *sealed;
+    let same = len == 28 && packet.starts_with(sealed);
+    let first = receiver.receive_rtcp(packet) == Ok(plain.as_slice());
+    same && first && receiver.receive_rtcp(&mut again) == Err(RtcpFault::Repeated)
+}
+
+#[test]
+fn rtcp(rt: HostRuntime) {
+    let mut sender = started(rt.alloc(), Profile::Aes128, 0x11111111, 1000, 0xc4, 0xc2, 1).expect(
+        &rt,
+        "there is memory",
+    );
+    let mut receiver = receiver(rt.alloc(), Profile::Aes128).expect(&rt, "there is memory");
+    let sealed =
+        b"\x80\xc9\x00\x01\x11\x11\x11\x11\xe4\x9e\x02\x14\xf2\x2a\x4a\xdb\xd1\xf9\x36\x67\x73\xd2\x82\x9c\x80\x00\x00\x00";
+    assert!(rt; goes_over(&mut sender, &mut receiver, sealed));
+}
