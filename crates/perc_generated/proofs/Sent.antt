@@ -24,7 +24,6 @@ use Rattle.perc_ekt.specs.Field.{Field, Full, IsCipherLength, IsField, Short, sp
 use Rattle.perc_ekt.specs.Key.{plain_text}
 use Rattle.perc_ekt.proofs.Fields.{spelling-length}
 use Rattle.perc_ekt.proofs.Keys.{plain-length, plain-octets}
-use Rattle.perc_ekt.proofs.Octets.{octet_of, octets_of}
 use Rattle.perc_keywrap.specs.Wrap.{IsWrapped, wrapped, wrapped_length}
 use Rattle.perc_keywrap.proofs.WrapLaws.{length-wrapped}
 use Rattle.perc_window.specs.Index.{nearest}
@@ -88,7 +87,7 @@ cipher_fits ekt key ssrc roc size octets =
     let is : IsWrapped ekt plain (wrapped ekt plain) = record {
       some = omega arith;
       few = omega arith;
-      in_range = octet_of plain (plain-octets key ssrc roc (omega arith) (octets_of key octets));
+      in_range = plain-octets key ssrc roc (omega arith) octets;
       value = refl;
     } in
     let whole : length (wrapped ekt plain) ≡ 40 = length-wrapped ekt plain (wrapped ekt plain) is ∙ ap wrapped_length long in

@@ -34,7 +34,6 @@ use Rattle.perc_ohb.proofs.RewritingLaws.{IsOhb-after}
 use Rattle.perc_ekt.specs.Field.{Field, Full, Short, spelling as field_spelling}
 use Rattle.perc_ekt.specs.Key.{plain_text}
 use Rattle.perc_ekt.proofs.Keys.{plain-length, plain-octets}
-use Rattle.perc_ekt.proofs.Octets.{octet_of, octets_of}
 use Rattle.perc_srtp.specs.Sealed.{rtcp_aad, rtcp_iv, rtcp_ssrc, rtcp_word, sealed_body, sealed_rtcp}
 use Rattle.perc_srtp.specs.Streams.{rtcp_opened}
 use Rattle.perc_srtp.specs.declared.rtcp.RtcpFault.{RtcpFault}
@@ -217,7 +216,7 @@ wrapped_octets s key ssrc roc is size octets =
     let plain : List ℕ = plain_text key ssrc roc in
     let long : length plain ≡ length key + 9 = plain-length key ssrc roc in
     wrapped_in_range s.key plain (wrapped s.key plain) (ekt_key s is)
-    (record { some = omega arith; few = omega arith; in_range = octet_of plain (plain-octets key ssrc roc (omega arith) (octets_of key octets)); value = refl })
+    (record { some = omega arith; few = omega arith; in_range = plain-octets key ssrc roc (omega arith) octets; value = refl })
 
 field_octets : (full : Bool) (cipher : List ℕ) (spi epoch : ℕ) → AreOctets cipher → AreOctets (field_spelling (cond full (Full cipher spi epoch) Short))
 unfolding field_spelling

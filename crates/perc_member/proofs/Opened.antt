@@ -21,7 +21,7 @@ use Rattle.perc_ekt.specs.Field.{Field, Full, IsCipherLength, IsDatagram, IsFiel
 use Rattle.perc_ekt.specs.Key.{plain_text}
 use Rattle.perc_ekt.proofs.Fields.{field_of_ok}
 use Rattle.perc_ekt.proofs.Keys.{plain-length, plain-octets}
-use Rattle.perc_ekt.proofs.Octets.{behind, octet_of, octets_of}
+use Rattle.perc_ekt.proofs.Octets.{behind}
 use Rattle.perc_octets.specs.Octets.{AreOctets}
 use Rattle.perc_receiver.specs.Table.{IsSecret}
 use Rattle.perc_outgoing.specs.Sending.{IsSending, Outgoing, next_place, outer_index, sending_key, sent_datagram, sent_field, sent_header, sent_inner}
@@ -64,7 +64,7 @@ wrapped_size ekt key ssrc roc size octets =
     let is : IsWrapped ekt plain (wrapped ekt plain) = record {
       some = omega (arith, few.0);
       few = omega (arith, few.1);
-      in_range = octet_of plain (plain-octets key ssrc roc (omega (arith, few.1)) (octets_of key octets));
+      in_range = plain-octets key ssrc roc (omega (arith, few.1)) octets;
       value = refl;
     } in
     let whole = length-wrapped ekt plain (wrapped ekt plain) is in
@@ -105,7 +105,7 @@ field_told opening m content datagram r octets o answer =
     let f = field_fits m o.may in
     let packet : List ℕ = sealed_packet m content in
     let is : IsDatagram packet f.field datagram = record { fits = f.fits; octets = o.datagram_is ∙ parts_are m content ∙ ap (λ (xs : List ℕ). packet ++ xs) (sym f.same) } in
-    let read = (field_of_ok packet f.field datagram (octets_of datagram octets)).1 is in
+    let read = (field_of_ok packet f.field datagram octets).1 is in
     let told = rw read at answer in
     (told_of f.field (length packet), told ∙ ap (λ (xs : List ℕ). Ok (told_of f.field (length packet), length xs)) f.same)
 

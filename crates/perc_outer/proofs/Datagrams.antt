@@ -5,7 +5,6 @@ use Rattle.std.proofs.lemmas.List.{drop_at, length-append, take_at}
 use Rattle.perc_ekt.specs.Field.{Field, IsDatagram, Short, field_at, field_of, last_octet, spelling, told_of}
 use Rattle.perc_ekt.specs.declared.field.EktField.{EktField}
 use Rattle.perc_ekt.specs.Reading.{length_at}
-use Rattle.perc_ekt.proofs.Octets.{octets_of}
 use Rattle.perc_ekt.proofs.Fields.{field_long, field_of_ok, field_short, kind_of, kind-available, kind-short, last_is, long_read, spelling-length}
 
 -- the packet, by how many octets the field has
@@ -53,7 +52,7 @@ pub field_found : (datagram : List ℕ) (told : EktField) (len : ℕ) → ((k : 
     → (read : List ℕ × Field) × (field_of datagram ≡ Ok read) × ◌≡◌ {A = EktField × ℕ} (told, len) (told_of read.1 (length read.0), length (spelling read.1))
     → FieldFound datagram told (length datagram - len)
 field_found datagram told len octets (read, found, same) =
-    let is = (field_of_ok read.0 read.1 datagram (octets_of datagram octets)).0 found in
+    let is = (field_of_ok read.0 read.1 datagram octets).0 found in
     let len_is : len ≡ length (spelling read.1) = ap (λ (t : EktField × ℕ). t.1) same in
     let packet : take (length datagram - len) datagram ≡ read.0 = packet_before read.0 read.1 datagram len is len_is in
     let n : length read.0 ≡ length datagram - len = omega (arith, ap length is.octets, length-append read.0 (spelling read.1)) in

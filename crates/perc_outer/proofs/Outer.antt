@@ -23,7 +23,6 @@ use Rattle.perc_ohb.proofs.ReadingLaws.{block_read, read_block}
 use Rattle.perc_ekt.specs.Field.{Field, IsDatagram, field_of, spelling as field_spelling}
 use Rattle.perc_ekt.specs.declared.field.FieldFault.{FieldFault}
 use Rattle.perc_ekt.proofs.Fields.{field_of_ok}
-use Rattle.perc_ekt.proofs.Octets.{octets_of}
 use Rattle.perc_outer.specs.declared.fault.OuterFault.{OuterFault}
 use Rattle.perc_outer.specs.declared.fault.OuterFault.TheVariants.{OwnStream, Rtp, StreamLimit}
 use Rattle.perc_outer.specs.Streams.{OuterStream, accepted_of, is_full_for, is_of, with_index}
@@ -217,7 +216,7 @@ pub is_reached : (keys : KeyAndSalt) (own : Option ℕ) (streams : List OuterStr
     → reached keys own streams datagram ≡ Reached o → IsReached keys own streams datagram o
 is_reached keys own streams datagram o session octets is =
     let f = found keys own streams datagram o is in
-    let is_datagram = (field_of_ok f.packet o.field datagram (octets_of datagram octets)).0 f.field_is in
+    let is_datagram = (field_of_ok f.packet o.field datagram octets).0 f.field_is in
     let packet_octets = below_front f.packet (field_spelling o.field) datagram is_datagram.octets octets in
     let is_packet = read_packet o.header f.rest f.packet (below_all f.packet packet_octets) f.packet_is in
     let rest_octets = below_back (header_spelling o.header) f.rest f.packet is_packet.octets packet_octets in
@@ -248,7 +247,7 @@ pub reached_header : (keys : KeyAndSalt) (own : Option ℕ) (streams : List Oute
     → reached keys own streams datagram ≡ Reached o → IsHeader o.header
 reached_header keys own streams datagram o octets is =
     let f = found keys own streams datagram o is in
-    let is_datagram = (field_of_ok f.packet o.field datagram (octets_of datagram octets)).0 f.field_is in
+    let is_datagram = (field_of_ok f.packet o.field datagram octets).0 f.field_is in
     let packet_octets = below_front f.packet (field_spelling o.field) datagram is_datagram.octets octets in
     (read_packet o.header f.rest f.packet (below_all f.packet packet_octets) f.packet_is).header
 

@@ -11,7 +11,7 @@ use Rattle.perc_window.specs.Replay.{greatest}
 use Rattle.perc_rtp.specs.Media.{Content}
 use Rattle.perc_srtp.specs.Sealed.{iv, rtcp_iv, rtcp_ssrc}
 use Rattle.perc_srtp.proofs.PacketLaws.{iv_injective, rtcp_iv_injective}
-use Rattle.perc_ekt.proofs.Octets.{four_spelled, octets_of}
+use Rattle.perc_ekt.proofs.Octets.{four_spelled}
 use Rattle.perc_sender.specs.Schedule.{take_answer}
 use Rattle.perc_sender.specs.declared.TakeFault.{TakeFault}
 use Rattle.perc_octets.specs.Octets.{AreOctets}
@@ -209,7 +209,7 @@ send_sound o before c None is sound =
 
 ssrc_fits : (plain : List ℕ) → AreOctets plain → 8 ≤ length plain → rtcp_ssrc plain < 2 ^ 32
 ssrc_fits plain octets long =
-    (four_spelled (drop 4 plain) (omega (arith, length-drop 4 plain)) (octets_of (drop 4 plain) (λ k. subst (λ (n : ℕ). n < 256) (sym (get_or-drop 4 plain k 0)) (octets (4 + k))))).1
+    (four_spelled (drop 4 plain) (omega (arith, length-drop 4 plain)) (λ k. subst (λ (n : ℕ). n < 256) (sym (get_or-drop 4 plain k 0)) (octets (4 + k)))).1
 
 rtcp_goes_on : (o : Outgoing) → GoesOn o (after_rtcp o)
 rtcp_goes_on o = record { ssrc = refl; next = omega arith; outer = λ high is. (high, is, omega arith); rtcp = omega arith }

@@ -1,6 +1,5 @@
 use Rattle.perc_ekt.proofs.Keys.{key_in_is}
-use Rattle.perc_ekt.proofs.Octets.{octets_of}
 use Rattle.perc_ekt.proofs.laws.one_key.Goals as goal
 
 pub returns : goal.returns
-returns c = λ size plain k fits. key_in_is size plain k (octets_of plain fits)
+returns c = λ size plain k fits. key_in_is size plain k fits

@@ -1,7 +1,6 @@
 use Rattle.std.proofs.Common.{refl}
 use Rattle.perc_ekt.specs.Record.{record_octets}
 use Rattle.perc_ekt.proofs.Keys.{opens, opens_only}
-use Rattle.perc_ekt.proofs.Octets.{octets_of}
 use Rattle.perc_ekt.proofs.Records.{record_reads, record_was_read}
 use Rattle.perc_ekt.proofs.laws.round_trip.Goals as goal
 
@@ -15,4 +14,4 @@ pub returns-clause-record : goal.returns-clause-record
 returns-clause-record c = λ r is. record_reads r r.len (record_octets r) is refl refl
 
 pub returns-clause-record_only : goal.returns-clause-record_only
-returns-clause-record_only c = λ len octets r right fits. record_was_read len octets r right (octets_of octets fits)
+returns-clause-record_only c = λ len octets r right fits. record_was_read len octets r right fits
