@@ -1,5 +1,5 @@
-mod Sharing
+pub mod Sharing
 mod Sealing
 mod Running
-mod Owning
-mod Matching
+pub mod Owning
+pub mod Matching

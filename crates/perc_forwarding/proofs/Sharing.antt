@@ -33,7 +33,7 @@ control_to : (s : Sealing) (e : Entry) (place : ℕ) (octets : List ℕ) (at : R
 control_to s e place octets (Ok at) = refl
 control_to s e place octets (Err f) = refl
 
-sent_is_to : (s : Sealing) (e : Entry) (place : ℕ) (change : Rewrite) (packet : Packet) → to_of (sent_to s e place change packet).0 ≡ e.association
+pub sent_is_to : (s : Sealing) (e : Entry) (place : ℕ) (change : Rewrite) (packet : Packet) → to_of (sent_to s e place change packet).0 ≡ e.association
 sent_is_to s e place change (Media from h inner block field) = media_to s e place change h inner block field (media_place s.streams h inner block field change)
 sent_is_to s e place change (Control from octets) =
     ap (λ (step : Sent × Sealing). to_of step.0) (control_by s e place octets) ∙ control_to s e place octets (control_place s.rtcp octets)
@@ -45,7 +45,7 @@ cases_true : (b : Bool) → (b ≡ true → ⊥) → b ≡ false
 cases_true true deny = absurd (deny refl)
 cases_true false deny = refl
 
-other_name : (a b : List ℕ) → a ≢ b → bytes_eq a b ≡ false
+pub other_name : (a b : List ℕ) → a ≢ b → bytes_eq a b ≡ false
 other_name a b apart = cases_true (bytes_eq a b) (λ is. apart ((bytes_eq-Decides a b).0 is))
 
 -- ---- what is kept
@@ -76,7 +76,7 @@ pub record Gives (e : Entry) (step : List Sent × List Sealing) (one : List Sent
   pub sealing : sealing_of step.1 e.serial ≡ one.1
 
 -- an output for another in front
-out_head : (b : Bool) (x : Sent) (rest : List Sent) → b ≡ false → cond b (x ∷ rest) rest ≡ rest
+pub out_head : (b : Bool) (x : Sent) (rest : List Sent) → b ≡ false → cond b (x ∷ rest) rest ≡ rest
 out_head true x rest is = absurd (cc)
 out_head false x rest is = refl
 
