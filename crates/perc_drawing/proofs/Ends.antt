@@ -1,5 +1,7 @@
 -- Ends by their statuses.
-use Rattle.std.proofs.Common.{◌≡◌, arith, refl}
+use Rattle.std.proofs.Common.{◌≡◌, ℕ, List, Option, Some, None, IfSome, arith, refl}
+use Rattle.perc_base.specs.Lines.{lines_of}
+use Rattle.perc_drawing.specs.Reading.{Tells, first_other}
 use Rattle.perc_drawing.specs.Status.{status_of}
 use Rattle.perc_drawing.specs.declared.report.DrawEnd.{DrawEnd}
 use Rattle.perc_drawing.specs.declared.report.DrawEnd.TheVariants.{Done, NotReport, ReadFault, WriteFault, Memory}
@@ -24,3 +26,23 @@ four_is_write (NotReport line) h = absurd (omega (arith, h))
 four_is_write ReadFault h = absurd (omega (arith, h))
 four_is_write WriteFault h = refl
 four_is_write Memory h = absurd (omega (arith, h))
+
+-- ---- what a status says of the lines
+
+pub zero_reports : (left : Option (List ℕ)) (end : DrawEnd) → status_of end ≡ 0 → IfSome left (λ octets. Tells (lines_of octets) end)
+    → IfSome left (λ octets. first_other 1 (lines_of octets) ≡ None)
+zero_reports None end is told = tt
+zero_reports (Some octets) Done is told = told
+zero_reports (Some octets) (NotReport line) is told = absurd (omega (arith, is))
+zero_reports (Some octets) ReadFault is told = absurd (omega (arith, is))
+zero_reports (Some octets) WriteFault is told = absurd (omega (arith, is))
+zero_reports (Some octets) Memory is told = absurd (omega (arith, is))
+
+pub one_is_other : (left : Option (List ℕ)) (end : DrawEnd) → status_of end ≡ 1 → IfSome left (λ octets. Tells (lines_of octets) end)
+    → IfSome left (λ octets. (number : ℕ) × (first_other 1 (lines_of octets) ≡ Some number))
+one_is_other None end is told = tt
+one_is_other (Some octets) Done is told = absurd (omega (arith, is))
+one_is_other (Some octets) (NotReport line) is told = (line, told)
+one_is_other (Some octets) ReadFault is told = absurd (omega (arith, is))
+one_is_other (Some octets) WriteFault is told = absurd (omega (arith, is))
+one_is_other (Some octets) Memory is told = absurd (omega (arith, is))

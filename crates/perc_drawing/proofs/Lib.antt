@@ -1,3 +1,4 @@
 pub mod Appended
 pub mod Drawn
 pub mod Ends
+pub mod Reading

@@ -1,3 +1,4 @@
 pub mod Markup
 pub mod Element
 pub mod Status
+pub mod Reading

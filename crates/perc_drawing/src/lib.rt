@@ -13,6 +13,4 @@ mod row;
 mod shapes;
 mod top;
 
-pub use markup::escape;
-pub use report::{DrawEnd, draw_report};
 pub use top::{Status, run};

@@ -1,7 +1,9 @@
 // A report read line by line, and its picture written.
-ghost use Rattle.std.specs.Prelude.{◌≡◌, ◌≢◌, ◌≤◌, ◌++◌, ℕ, List, Some, IfSome, IfOk, IfErr};
+ghost use Rattle.std.specs.Prelude.{◌≡◌, ◌≢◌, ◌≤◌, ◌++◌, ℕ, true, List, Some, None, IfSome, IfOk, IfErr, OnOk};
+ghost use Rattle.perc_base.specs.Lines.{lines_before, lines_of};
 ghost use Rattle.perc_base.specs.Outside.{HasRisen};
 ghost use Rattle.perc_drawing.specs.Element.{IsPicture};
+ghost use Rattle.perc_drawing.specs.Reading.{Tells, TellsLine, TellsTurn, first_other};
 
 use super::picture::Picture;
 use perc_base::{Failed, LineRead, Lines, Sink, Source, write_all};
@@ -23,8 +25,11 @@ pub enum DrawEnd {
     Memory,
 }
 
-/// Reads a report, and writes its picture. Nothing is written before the whole report is read.
+/// Reads a report, and writes its picture. Nothing is written before the whole report is read. The end tells the first line that is
+/// none of a report, or has more than 8192 octets, where there is one.
 pub fn draw_report<I: Source, O: Sink>(alloc: Global, input: &mut I, out: &mut O) -> DrawEnd
+    // Where the source tells what it has: no line but the one that is told is none of a report.
+    ensures told { IfSome (I.left input.old) (λ octets. Tells (lines_of octets) result) }
     // A whole picture is written, or nothing, but where a write fails.
     ensures picture { result ≡ DrawEnd.Done → IfSome (O.written out.old) (λ before.
         (picture : List ℕ) × (O.written out.new ≡ Some (before ++ picture)) × IsPicture picture) }
@@ -44,6 +49,8 @@ pub fn draw_report<I: Source, O: Sink>(alloc: Global, input: &mut I, out: &mut O
 
 // Reads a report, and answers its picture.
 fn picture_of<I: Source>(alloc: Global, input: &mut I) -> Result<Vec<u8>, DrawEnd>
+    ensures ok { OnOk result (IfSome (I.left input.old) (λ octets. first_other 1 (lines_of octets) ≡ None)) }
+    ensures told { IfErr result (λ end. IfSome (I.left input.old) (λ octets. Tells (lines_of octets) end)) }
     ensures picture { IfOk result (λ picture. IsPicture picture.items) }
     ensures done { IfErr result (λ end. end ≢ DrawEnd.Done) }
     ensures wrote { IfErr result (λ end. end ≢ DrawEnd.WriteFault) }
@@ -68,6 +75,8 @@ fn note_all<I: Source>(
     picture: &mut Picture,
     input: &mut I,
 ) -> Result<(), DrawEnd>
+    ensures ok { OnOk result (IfSome (I.left input.old) (λ octets. first_other 1 (lines_before lines.old octets) ≡ None)) }
+    ensures told { IfErr result (λ end. IfSome (I.left input.old) (λ octets. Tells (lines_before lines.old octets) end)) }
     ensures done { IfErr result (λ end. end ≢ DrawEnd.Done) }
     ensures wrote { IfErr result (λ end. end ≢ DrawEnd.WriteFault) }
     ensures read_fault { IfErr result (λ end. end ≡ DrawEnd.ReadFault → HasRisen (I.fault_count input.old) (I.fault_count input.new)) }
@@ -87,6 +96,7 @@ fn note_next<I: Source>(
     input: &mut I,
     number: u64,
 ) -> Result<bool, DrawEnd>
+    ensures told { TellsTurn number (I.left input.old) (I.left input.new) lines.old lines.new result }
     ensures done { IfErr result (λ end. end ≢ DrawEnd.Done) }
     ensures wrote { IfErr result (λ end. end ≢ DrawEnd.WriteFault) }
     ensures read_fault { IfErr result (λ end. end ≡ DrawEnd.ReadFault → HasRisen (I.fault_count input.old) (I.fault_count input.new)) }
@@ -102,6 +112,7 @@ fn note_next<I: Source>(
 
 // Notes a line.
 fn note_line(picture: &mut Picture, number: u64, line: &[u8]) -> Result<bool, DrawEnd>
+    ensures told { TellsLine number line.now result }
     ensures done { IfErr result (λ end. end ≢ DrawEnd.Done) }
     ensures wrote { IfErr result (λ end. end ≢ DrawEnd.WriteFault) }
     ensures read { IfErr result (λ end. end ≢ DrawEnd.ReadFault) }
@@ -114,7 +125,8 @@ fn note_line(picture: &mut Picture, number: u64, line: &[u8]) -> Result<bool, Dr
 
 // Notes what a line says.
 fn noted(picture: &mut Picture, number: u64, report: &ReportLine<'_>) -> Result<bool, DrawEnd>
-    ensures { IfErr result (λ end. end ≡ DrawEnd.Memory) }
+    ensures ok { IfOk result (λ noted. noted ≡ true) }
+    ensures memory { IfErr result (λ end. end ≡ DrawEnd.Memory) }
 {
     match picture.note(number, report) {
         Ok(()) => Ok(true),

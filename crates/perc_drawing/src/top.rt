@@ -1,7 +1,9 @@
 // The top call: what the program does with its words, its input and its outputs.
-ghost use Rattle.std.specs.Prelude.{◌≡◌, ◌≢◌, ◌++◌, ℕ, List, Some, IfSome};
+ghost use Rattle.std.specs.Prelude.{◌≡◌, ◌≢◌, ◌++◌, ℕ, List, None, Some, IfSome};
+ghost use Rattle.perc_base.specs.Lines.{lines_of};
 ghost use Rattle.perc_base.specs.Outside.{HasRisen};
 ghost use Rattle.perc_drawing.specs.Element.{IsPicture};
+ghost use Rattle.perc_drawing.specs.Reading.{first_other};
 ghost use Rattle.perc_drawing.specs.Status as spec;
 
 use super::report::{DrawEnd, draw_report};
@@ -22,6 +24,9 @@ pub fn run<I: Source, O: Sink, E: Sink>(
     out: &mut O,
     err: &mut E,
 ) -> Status
+    // Status 0 comes only where each line is one of a report, and status 1 only where one isn't, if the source tells what it has.
+    ensures reports { result.0 ≡ 0 → IfSome (I.left input.old) (λ octets. first_other 1 (lines_of octets) ≡ None) }
+    ensures other { result.0 ≡ 1 → IfSome (I.left input.old) (λ octets. (number : ℕ) × (first_other 1 (lines_of octets) ≡ Some number)) }
     // With status 0 a whole picture is written; else nothing is, but where a write fails.
     ensures picture { result.0 ≡ 0 → IfSome (O.written out.old) (λ before.
         (picture : List ℕ) × (O.written out.new ≡ Some (before ++ picture)) × IsPicture picture) }

@@ -1,9 +1,7 @@
-//! Tests of the ways of media: contexts, endpoints with their parts, and a distributor's core.
+//! Tests of the ways of media: contexts, and endpoints with their parts.
 #![tactic(auto)]
 
 #[cfg(test)]
 mod contexts;
-#[cfg(test)]
-mod distributor;
 #[cfg(test)]
 mod endpoint;

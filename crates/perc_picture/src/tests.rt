@@ -1,6 +1,6 @@
 // Reports and faults through the top call. What is wanted of a picture is worked out by hand from the layout.
 use perc_base::{MemSink, MemSource};
-use perc_drawing::{Status, escape, run};
+use perc_drawing::{Status, run};
 use std::alloc::{AllocError, Global};
 use std::process::Abort;
 use std::test::Fail;
@@ -162,14 +162,5 @@ fn cuts_long_reports(rt: HostRuntime) -> Result<(), Fail> {
         )
     );
     assert!(rt; holds(out, b">and 3 more</text>"));
-    Ok(())
-}
-
-#[test]
-fn escapes_marks(rt: HostRuntime) -> Result<(), Fail> {
-    let mut out = Vec::new(rt.alloc());
-    escape(&mut out, b"a<b> & \"c\"~ '\n\x7f\xe9")?;
-    let want = b"a&lt;b&gt; &amp; &quot;c&quot;~ '???";
-    assert_eq!(rt; out.as_slice(), want.as_slice());
     Ok(())
 }
