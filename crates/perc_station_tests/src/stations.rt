@@ -259,39 +259,60 @@ fn have_sealed(stations: &[Station], count: usize) -> bool {
     sealed == count
 }
 
-// So many stations send 32 packets on to 32 others, 4 times.
+// So many stations send 32 packets on to 32 others, again and again.
 fn to_all<R: Threads + Wait + Sync + Abort>(
     rt: &R,
     alloc: Global,
     count: usize,
+    times: u16,
 ) -> Result<(), Memory>
     requires { (1 ≤ count) × (count ≤ 16) }
 {
     let batch = video(alloc)?;
     let (_, mut hall) = hall_of(rt, alloc, count, 33)?;
-    goes_on(rt, &mut hall, &batch, 4);
+    goes_on(rt, &mut hall, &batch, times);
     assert!(rt; have_sealed(&hall.stations, 1024));
     Ok(())
 }
 
 #[test]
-fn by_one(rt: HostRuntime) -> Result<(), Memory> {
-    to_all(&rt, rt.alloc(), 1)
+fn once_by_one(rt: HostRuntime) -> Result<(), Memory> {
+    to_all(&rt, rt.alloc(), 1, 1)
 }
 
 #[test]
-fn by_two(rt: HostRuntime) -> Result<(), Memory> {
-    to_all(&rt, rt.alloc(), 2)
+fn once_by_two(rt: HostRuntime) -> Result<(), Memory> {
+    to_all(&rt, rt.alloc(), 2, 1)
 }
 
 #[test]
-fn by_three(rt: HostRuntime) -> Result<(), Memory> {
-    to_all(&rt, rt.alloc(), 3)
+fn once_by_three(rt: HostRuntime) -> Result<(), Memory> {
+    to_all(&rt, rt.alloc(), 3, 1)
 }
 
 #[test]
-fn by_four(rt: HostRuntime) -> Result<(), Memory> {
-    to_all(&rt, rt.alloc(), 4)
+fn once_by_four(rt: HostRuntime) -> Result<(), Memory> {
+    to_all(&rt, rt.alloc(), 4, 1)
+}
+
+#[test]
+fn often_by_one(rt: HostRuntime) -> Result<(), Memory> {
+    to_all(&rt, rt.alloc(), 1, 4)
+}
+
+#[test]
+fn often_by_two(rt: HostRuntime) -> Result<(), Memory> {
+    to_all(&rt, rt.alloc(), 2, 4)
+}
+
+#[test]
+fn often_by_three(rt: HostRuntime) -> Result<(), Memory> {
+    to_all(&rt, rt.alloc(), 3, 4)
+}
+
+#[test]
+fn often_by_four(rt: HostRuntime) -> Result<(), Memory> {
+    to_all(&rt, rt.alloc(), 4, 4)
 }
 
 // Publishes again and again.
@@ -302,7 +323,7 @@ fn publish_on<R: Wait + Abort>(rt: &R, publisher: &mut Publisher, times: usize) 
 }
 
 #[test]
-fn beside_a_publisher(rt: HostRuntime) -> Result<(), Memory> {
+fn often_beside_a_publisher(rt: HostRuntime) -> Result<(), Memory> {
     let batch = video(rt.alloc())?;
     let (mut publisher, mut hall) = hall_of(&rt, rt.alloc(), 4, 33)?;
     join(
