@@ -40,7 +40,8 @@ state_cells f b size same =
     rw k_is at (same (k % 4) (k / 4) (omega arith) (omega arith)))
 
 -- the state that a block is
-pub state_of_block : (b : List ℕ) (s : State) → length b ≡ 16 → octets_of_word s.a ≡ word_at b 0 → octets_of_word s.b ≡ word_at b 1 → octets_of_word s.c ≡ word_at b 2 → octets_of_word s.d ≡ word_at b 3 → octets_of s ≡ b
+pub state_of_block : (b : List ℕ) (s : State) → length b ≡ 16 → octets_of_word s.a ≡ word_at b 0 → octets_of_word s.b ≡ word_at b 1
+    → octets_of_word s.c ≡ word_at b 2 → octets_of_word s.d ≡ word_at b 3 → octets_of s ≡ b
 unfolding octets_of octets_of_words
 state_of_block b s size first second third fourth =
     same_words _ _ _ _ _ _ _ _ first second third fourth
@@ -182,7 +183,8 @@ mix_injective a b block_a block_b same =
     ∙ sym (undone_state unmix_matrix mix_matrix b unmix_undoes block_b)
 
 -- a row of octets times a column
-row_in_range : (a b c d : ℕ) (s : List ℕ) (column : ℕ) → a < 256 → b < 256 → c < 256 → d < 256 → add (product a (cell s 0 column)) (add (product b (cell s 1 column)) (add (product c (cell s 2 column)) (add (product d (cell s 3 column)) 0))) < 256
+row_in_range : (a b c d : ℕ) (s : List ℕ) (column : ℕ) → a < 256 → b < 256 → c < 256 → d < 256
+    → add (product a (cell s 0 column)) (add (product b (cell s 1 column)) (add (product c (cell s 2 column)) (add (product d (cell s 3 column)) 0))) < 256
 row_in_range a b c d s column in_a in_b in_c in_d =
     let at_d = xor_lt 8 (product d (cell s 3 column)) 0 (product_in_range d (cell s 3 column) in_d) (omega arith) in
     let at_c = xor_lt 8 (product c (cell s 2 column)) _ (product_in_range c (cell s 2 column) in_c) at_d in

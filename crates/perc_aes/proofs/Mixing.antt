@@ -111,7 +111,9 @@ chosen_add true a b = refl
 chosen_add false a b = refl
 
 -- so that they are computed at each row, place and power of two
-undoes_by_test : (m n : List (List ℕ)) → map (λ t. twice m n (t % 4) (t / 4 % 4) (2 ^ (t / 16))) (range_with_len 0 128) ≡ map (λ t. if nat_eq (t % 4) (t / 4 % 4) then 2 ^ (t / 16) else 0) (range_with_len 0 128) → Undoes m n
+undoes_by_test : (m n : List (List ℕ))
+    → map (λ t. twice m n (t % 4) (t / 4 % 4) (2 ^ (t / 16))) (range_with_len 0 128) ≡ map (λ t. if nat_eq (t % 4) (t / 4 % 4) then 2 ^ (t / 16) else 0) (range_with_len 0 128)
+    → Undoes m n
 undoes_by_test m n same r k a in_rows in_columns in_range =
     agree 8 (λ a. twice m n r k a) (λ a. if nat_eq r k then a else 0) (record { sums = twice_add m n r k }) (record { sums = chosen_add (nat_eq r k) })
     (λ i below.
@@ -138,7 +140,8 @@ picked f (suc (suc (suc zero))) _ = xor_zero_r (f 3)
 picked f (suc (suc (suc (suc r)))) h = absurd (omega arith)
 
 -- a row of m, of a column that n made of f, is an octet of f
-pub undone : (m n : List (List ℕ)) (f : ℕ → ℕ) (r : ℕ) → Undoes m n → ((k : ℕ) → f k < 256) → r < 4 → total (map (λ j. product (entry m r j) (total (map (λ k. product (entry n j k) (f k)) (range_with_len 0 4)))) (range_with_len 0 4)) ≡ f r
+pub undone : (m n : List (List ℕ)) (f : ℕ → ℕ) (r : ℕ) → Undoes m n → ((k : ℕ) → f k < 256) → r < 4
+    → total (map (λ j. product (entry m r j) (total (map (λ k. product (entry n j k) (f k)) (range_with_len 0 4)))) (range_with_len 0 4)) ≡ f r
 undone m n f r undoes in_range in_rows =
     total_same (λ j. product (entry m r j) (total (map (λ k. product (entry n j k) (f k)) (range_with_len 0 4))))
     (λ j. total (map (λ k. product (entry m r j) (product (entry n j k) (f k))) (range_with_len 0 4)))

@@ -4,7 +4,8 @@ use Rattle.std.proofs.lemmas.Bool.{cases_lt}
 use Rattle.std.proofs.lemmas.List.{ext_get_or, get_or-take, get_or-drop, get_or_past, length-take, get_or_append_left, get_or-append_right}
 use Rattle.std.proofs.lemmas.Nat.{xor_lt}
 use Rattle.perc_aes.specs.Field.{add, times_x, power_of_x}
-use Rattle.perc_aes.specs.Cipher.{IsBlock, IsKey, add_round_key, add_words, aes, key_words, last_round, mix_columns, next_word, rotate_word, round_constant, round_key, rounds, schedule, schedule_core, shift_rows, state_after, sub_bytes, sub_octet, sub_word, word_at}
+use Rattle.perc_aes.specs.Cipher.{IsBlock, IsKey, add_round_key, add_words, aes, key_words, last_round, mix_columns, next_word, rotate_word, round_constant}
+use Rattle.perc_aes.specs.Cipher.{round_key, rounds, schedule, schedule_core, shift_rows, state_after, sub_bytes, sub_octet, sub_word, word_at}
 use Rattle.perc_aes.specs.Inverse.{inverse_mix_columns, inverse_shift_rows, inverse_sub_bytes}
 use Rattle.perc_aes.specs.KeySchedule.{IsSchedule}
 use Rattle.perc_octets.specs.Octets.{AreOctets}
@@ -14,7 +15,8 @@ use Rattle.perc_aes.proofs.Octets.{below_256}
 use Rattle.perc_aes.proofs.SBox.{sub_octet_in_range}
 use Rattle.perc_aes.proofs.StateLaws.{AreOctets-word}
 use Rattle.perc_aes.proofs.Words.{key_of_words, key_size, length-words, words_at}
-use Rattle.perc_aes.proofs.Blocks.{IsBlock-sub_bytes, IsBlock-shift_rows, IsBlock-mix_columns, IsBlock-add_round_key, IsBlock-inverse_sub_bytes, IsBlock-inverse_shift_rows, IsBlock-inverse_mix_columns, sub_injective, shift_injective, mix_injective, add_injective, sub_undone, shift_undone, mix_undone, add_twice}
+use Rattle.perc_aes.proofs.Blocks.{IsBlock-sub_bytes, IsBlock-shift_rows, IsBlock-mix_columns, IsBlock-add_round_key, IsBlock-inverse_sub_bytes, IsBlock-inverse_shift_rows}
+use Rattle.perc_aes.proofs.Blocks.{IsBlock-inverse_mix_columns, sub_injective, shift_injective, mix_injective, add_injective, sub_undone, shift_undone, mix_undone, add_twice}
 
 -- ---- lists of octets
 
@@ -168,7 +170,8 @@ round_key_fits words nk r is size in_rounds =
     omega (arith, key_of_words words nk is.size size)
 
 -- a round key, as the words of a schedule have it
-pub round_key_is : (words : List ℕ) (nk r : ℕ) → IsSchedule words nk → length words ≡ 60 → r ≤ rounds (octets_of_words (take nk words)) → octets_of (state_at words (4 * r)) ≡ round_key (octets_of_words (take nk words)) r
+pub round_key_is : (words : List ℕ) (nk r : ℕ) → IsSchedule words nk → length words ≡ 60 → r ≤ rounds (octets_of_words (take nk words))
+    → octets_of (state_at words (4 * r)) ≡ round_key (octets_of_words (take nk words)) r
 unfolding round_key octets_of
 round_key_is words nk r is size in_rounds =
     let facts = key_size (4 * nk) is.size in
@@ -270,7 +273,8 @@ leads_last key c s r size r_is s_is = λ b after.
     sym (aes_last key b (state_after key b (r - 1)) r r_is refl)
     ∙ rw (after, s_is) (add_twice c (round_key key r) size)
 
-pub leads_back : (key c s t w : List ℕ) (r n : ℕ) → IsBlock s → LeadsTo key (suc r) s c → mix_columns t ≡ add_round_key (inverse_sub_bytes (inverse_shift_rows s)) w → w ≡ round_key key n → n ≡ suc r → LeadsTo key r t c
+pub leads_back : (key c s t w : List ℕ) (r n : ℕ) → IsBlock s → LeadsTo key (suc r) s c
+    → mix_columns t ≡ add_round_key (inverse_sub_bytes (inverse_shift_rows s)) w → w ≡ round_key key n → n ≡ suc r → LeadsTo key r t c
 unfolding state_after
 leads_back key c s t w r n block leads t_is w_is n_is = λ b after.
     leads b (rw (after, t_is, w_is, n_is, add_twice (inverse_sub_bytes (inverse_shift_rows s)) (round_key key (suc r)) (IsBlock-undone s block).size)

@@ -34,7 +34,9 @@ word_of_four a b c d n in_a in_b in_c in_d is =
     same_four _ _ _ _ _ _ _ _ (omega (arith, is)) (omega (arith, is)) (omega (arith, is)) (omega (arith, is))
 
 -- word i of octets, as the code reads it
-pub word_at_is : (octets : List ℕ) (i n : ℕ) → ((k : ℕ) → get_or octets k 0 < 256) → n ≡ from_be_bytes w32 (get_or octets (4 * i) 0 ∷ get_or octets (4 * i + 1) 0 ∷ get_or octets (4 * i + 2) 0 ∷ get_or octets (4 * i + 3) 0 ∷ []) → octets_of_word n ≡ word_at octets i
+pub word_at_is : (octets : List ℕ) (i n : ℕ) → ((k : ℕ) → get_or octets k 0 < 256)
+    → n ≡ from_be_bytes w32 (get_or octets (4 * i) 0 ∷ get_or octets (4 * i + 1) 0 ∷ get_or octets (4 * i + 2) 0 ∷ get_or octets (4 * i + 3) 0 ∷ [])
+    → octets_of_word n ≡ word_at octets i
 word_at_is octets i n in_range is =
     let first : 4 * i + 0 ≡ 4 * i = omega arith in
     word_of_four (get_or octets (4 * i) 0) (get_or octets (4 * i + 1) 0) (get_or octets (4 * i + 2) 0) (get_or octets (4 * i + 3) 0) n (in_range (4 * i)) (in_range (4 * i + 1)) (in_range (4 * i + 2)) (in_range (4 * i + 3)) is
@@ -93,7 +95,8 @@ add_left : (p q r s : ℕ) → bit_xor (bit_xor (bit_xor p q) r) s ≡ total (p 
 add_left p q r s = rw (xor_zero_r s, xor_assoc p q r, xor_assoc p (bit_xor q r) s, xor_assoc q r s) refl
 
 -- four words, as the code adds them
-sum_of_words : (p q r s : ℕ) (v w x : List ℕ) → octets_of_word q ≡ v → octets_of_word r ≡ w → octets_of_word s ≡ x → octets_of_word (bit_xor (bit_xor (bit_xor p q) r) s) ≡ add_words (add_words (add_words (octets_of_word p) v) w) x
+sum_of_words : (p q r s : ℕ) (v w x : List ℕ) → octets_of_word q ≡ v → octets_of_word r ≡ w → octets_of_word s ≡ x
+    → octets_of_word (bit_xor (bit_xor (bit_xor p q) r) s) ≡ add_words (add_words (add_words (octets_of_word p) v) w) x
 sum_of_words p q r s v w x q_is r_is s_is =
     rw (← q_is, ← r_is, ← s_is)
     (word_xor (bit_xor (bit_xor p q) r) s
@@ -111,7 +114,8 @@ sum_of_four_is p q r s =
     sum_of_words p q r s (octets_of_word q) (octets_of_word r) (octets_of_word s) refl refl refl
     ∙ add_three (octets_of_word p) (octets_of_word q) (octets_of_word r) (octets_of_word s)
 
-pub turned_sum_is : (p q r s : ℕ) → p < 2 ^ 32 → q < 2 ^ 32 → r < 2 ^ 32 → s < 2 ^ 32 → octets_of_word (bit_xor (bit_xor (bit_xor p (rotate_right w32 q 8)) (rotate_right w32 r 16)) (rotate_right w32 s 24)) ≡ turned_sum (octets_of_word p) (octets_of_word q) (octets_of_word r) (octets_of_word s)
+pub turned_sum_is : (p q r s : ℕ) → p < 2 ^ 32 → q < 2 ^ 32 → r < 2 ^ 32 → s < 2 ^ 32
+    → octets_of_word (bit_xor (bit_xor (bit_xor p (rotate_right w32 q 8)) (rotate_right w32 r 16)) (rotate_right w32 s 24)) ≡ turned_sum (octets_of_word p) (octets_of_word q) (octets_of_word r) (octets_of_word s)
 turned_sum_is p q r s in_p in_q in_r in_s =
     sum_of_words p (rotate_right w32 q 8) (rotate_right w32 r 16) (rotate_right w32 s 24) (turned (octets_of_word q) 3) (turned (octets_of_word r) 2) (turned (octets_of_word s) 1) (turned_8 q in_q) (turned_16 r in_r) (turned_24 s in_s)
     ∙ add_three (octets_of_word p) (turned (octets_of_word q) 3) (turned (octets_of_word r) 2) (turned (octets_of_word s) 1)
@@ -124,30 +128,49 @@ added s k = same_words _ _ _ _ _ _ _ _ (word_xor s.a k.a) (word_xor s.b k.b) (wo
 
 -- ---- the columns of a state after a round, and after the inverse of one
 
-pub mixed_columns : (s t : State) → octets_of_word t.a ≡ times_column mix_matrix (map sub_octet (diagonal s.a s.b s.c s.d)) → octets_of_word t.b ≡ times_column mix_matrix (map sub_octet (diagonal s.b s.c s.d s.a)) → octets_of_word t.c ≡ times_column mix_matrix (map sub_octet (diagonal s.c s.d s.a s.b)) → octets_of_word t.d ≡ times_column mix_matrix (map sub_octet (diagonal s.d s.a s.b s.c)) → octets_of t ≡ mix_columns (shift_rows (sub_bytes (octets_of s)))
+pub mixed_columns : (s t : State) → octets_of_word t.a ≡ times_column mix_matrix (map sub_octet (diagonal s.a s.b s.c s.d))
+    → octets_of_word t.b ≡ times_column mix_matrix (map sub_octet (diagonal s.b s.c s.d s.a))
+    → octets_of_word t.c ≡ times_column mix_matrix (map sub_octet (diagonal s.c s.d s.a s.b))
+    → octets_of_word t.d ≡ times_column mix_matrix (map sub_octet (diagonal s.d s.a s.b s.c))
+    → octets_of t ≡ mix_columns (shift_rows (sub_bytes (octets_of s)))
 unfolding octets_of octets_of_words octets_of_word mix_columns shift_rows sub_bytes
 mixed_columns s t a b c d = same_words _ _ _ _ _ _ _ _ a b c d
 
-pub shifted_columns : (s t : State) → octets_of_word t.a ≡ map sub_octet (diagonal s.a s.b s.c s.d) → octets_of_word t.b ≡ map sub_octet (diagonal s.b s.c s.d s.a) → octets_of_word t.c ≡ map sub_octet (diagonal s.c s.d s.a s.b) → octets_of_word t.d ≡ map sub_octet (diagonal s.d s.a s.b s.c) → octets_of t ≡ shift_rows (sub_bytes (octets_of s))
+pub shifted_columns : (s t : State) → octets_of_word t.a ≡ map sub_octet (diagonal s.a s.b s.c s.d)
+    → octets_of_word t.b ≡ map sub_octet (diagonal s.b s.c s.d s.a) → octets_of_word t.c ≡ map sub_octet (diagonal s.c s.d s.a s.b)
+    → octets_of_word t.d ≡ map sub_octet (diagonal s.d s.a s.b s.c) → octets_of t ≡ shift_rows (sub_bytes (octets_of s))
 unfolding octets_of octets_of_words octets_of_word shift_rows sub_bytes
 shifted_columns s t a b c d = same_words _ _ _ _ _ _ _ _ a b c d
 
-pub unmixed_columns : (s t : State) → octets_of_word t.a ≡ times_column unmix_matrix (map inverse_sub_octet (diagonal s.a s.d s.c s.b)) → octets_of_word t.b ≡ times_column unmix_matrix (map inverse_sub_octet (diagonal s.b s.a s.d s.c)) → octets_of_word t.c ≡ times_column unmix_matrix (map inverse_sub_octet (diagonal s.c s.b s.a s.d)) → octets_of_word t.d ≡ times_column unmix_matrix (map inverse_sub_octet (diagonal s.d s.c s.b s.a)) → octets_of t ≡ inverse_mix_columns (inverse_sub_bytes (inverse_shift_rows (octets_of s)))
+pub unmixed_columns : (s t : State) → octets_of_word t.a ≡ times_column unmix_matrix (map inverse_sub_octet (diagonal s.a s.d s.c s.b))
+    → octets_of_word t.b ≡ times_column unmix_matrix (map inverse_sub_octet (diagonal s.b s.a s.d s.c))
+    → octets_of_word t.c ≡ times_column unmix_matrix (map inverse_sub_octet (diagonal s.c s.b s.a s.d))
+    → octets_of_word t.d ≡ times_column unmix_matrix (map inverse_sub_octet (diagonal s.d s.c s.b s.a))
+    → octets_of t ≡ inverse_mix_columns (inverse_sub_bytes (inverse_shift_rows (octets_of s)))
 unfolding octets_of octets_of_words octets_of_word inverse_mix_columns inverse_shift_rows inverse_sub_bytes
 unmixed_columns s t a b c d = same_words _ _ _ _ _ _ _ _ a b c d
 
-pub unshifted_columns : (s t : State) → octets_of_word t.a ≡ map inverse_sub_octet (diagonal s.a s.d s.c s.b) → octets_of_word t.b ≡ map inverse_sub_octet (diagonal s.b s.a s.d s.c) → octets_of_word t.c ≡ map inverse_sub_octet (diagonal s.c s.b s.a s.d) → octets_of_word t.d ≡ map inverse_sub_octet (diagonal s.d s.c s.b s.a) → octets_of t ≡ inverse_sub_bytes (inverse_shift_rows (octets_of s))
+pub unshifted_columns : (s t : State) → octets_of_word t.a ≡ map inverse_sub_octet (diagonal s.a s.d s.c s.b)
+    → octets_of_word t.b ≡ map inverse_sub_octet (diagonal s.b s.a s.d s.c)
+    → octets_of_word t.c ≡ map inverse_sub_octet (diagonal s.c s.b s.a s.d)
+    → octets_of_word t.d ≡ map inverse_sub_octet (diagonal s.d s.c s.b s.a)
+    → octets_of t ≡ inverse_sub_bytes (inverse_shift_rows (octets_of s))
 unfolding octets_of octets_of_words octets_of_word inverse_shift_rows inverse_sub_bytes
 unshifted_columns s t a b c d = same_words _ _ _ _ _ _ _ _ a b c d
 
-pub unmixed_words : (s t : State) → octets_of_word t.a ≡ times_column unmix_matrix (octets_of_word s.a) → octets_of_word t.b ≡ times_column unmix_matrix (octets_of_word s.b) → octets_of_word t.c ≡ times_column unmix_matrix (octets_of_word s.c) → octets_of_word t.d ≡ times_column unmix_matrix (octets_of_word s.d) → octets_of t ≡ inverse_mix_columns (octets_of s)
+pub unmixed_words : (s t : State) → octets_of_word t.a ≡ times_column unmix_matrix (octets_of_word s.a)
+    → octets_of_word t.b ≡ times_column unmix_matrix (octets_of_word s.b)
+    → octets_of_word t.c ≡ times_column unmix_matrix (octets_of_word s.c)
+    → octets_of_word t.d ≡ times_column unmix_matrix (octets_of_word s.d) → octets_of t ≡ inverse_mix_columns (octets_of s)
 unfolding octets_of octets_of_words octets_of_word inverse_mix_columns
 unmixed_words s t a b c d = same_words _ _ _ _ _ _ _ _ a b c d
 
 -- ---- one column
 
 -- a word of the images of a diagonal
-pub word_of_images : (f : ℕ → ℕ) (a b c d w x y z n : ℕ) → w < 256 → x < 256 → y < 256 → z < 256 → w ≡ f (slice_index (octets_of_word a) 0) → x ≡ f (slice_index (octets_of_word b) 1) → y ≡ f (slice_index (octets_of_word c) 2) → z ≡ f (slice_index (octets_of_word d) 3) → n ≡ from_be_bytes w32 (w ∷ x ∷ y ∷ z ∷ []) → octets_of_word n ≡ map f (diagonal a b c d)
+pub word_of_images : (f : ℕ → ℕ) (a b c d w x y z n : ℕ) → w < 256 → x < 256 → y < 256 → z < 256 → w ≡ f (slice_index (octets_of_word a) 0)
+    → x ≡ f (slice_index (octets_of_word b) 1) → y ≡ f (slice_index (octets_of_word c) 2) → z ≡ f (slice_index (octets_of_word d) 3)
+    → n ≡ from_be_bytes w32 (w ∷ x ∷ y ∷ z ∷ []) → octets_of_word n ≡ map f (diagonal a b c d)
 word_of_images f a b c d w x y z n in_w in_x in_y in_z w_is x_is y_is z_is n_is =
     word_of_four w x y z n in_w in_x in_y in_z n_is ∙ same_four _ _ _ _ _ _ _ _ w_is x_is y_is z_is
 

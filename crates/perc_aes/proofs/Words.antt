@@ -76,7 +76,10 @@ word_before key words i j so_far fits before =
     ∙ ap (λ (octets : List ℕ). word_at octets j) so_far
 
 -- one more word behind the words so far
-schedule_more : (key words : List ℕ) (word i nk : ℕ) → nk ≡ key_words key → 0 < nk → nk ≤ i → i < length words → octets_of_words (take i words) ≡ schedule key i → octets_of_word word ≡ add_words (octets_of_word (get_or words (i - nk) 0)) (schedule_core nk i (octets_of_word (get_or words (i - 1) 0))) → octets_of_words (take (i + 1) (slice_set words i word)) ≡ schedule key (i + 1)
+schedule_more : (key words : List ℕ) (word i nk : ℕ) → nk ≡ key_words key → 0 < nk → nk ≤ i → i < length words
+    → octets_of_words (take i words) ≡ schedule key i
+    → octets_of_word word ≡ add_words (octets_of_word (get_or words (i - nk) 0)) (schedule_core nk i (octets_of_word (get_or words (i - 1) 0)))
+    → octets_of_words (take (i + 1) (slice_set words i word)) ≡ schedule key (i + 1)
 unfolding schedule octets_of_words
 schedule_more key words word i nk nk_is some after fits so_far word_is =
     let back = word_before key words i (i - nk) so_far (omega arith) (omega arith) in
@@ -125,13 +128,18 @@ expand_init words nk is size =
     sym (schedule_first (octets_of_words (take nk words)) nk (omega arith) ∙ take_all (4 * nk) (octets_of_words (take nk words)) (omega (arith, length-take nk words)))
 
 -- and it goes on so
-pub expand_more : (words first : List ℕ) (word nk i : ℕ) → IsKeyLength (4 * nk) → length first ≡ 60 → length words ≡ 60 → nk ≤ i → i < 4 * nk + 28 → octets_of_words (take i words) ≡ schedule (octets_of_words (take nk first)) i → octets_of_word word ≡ add_words (octets_of_word (get_or words (i - nk) 0)) (schedule_core nk i (octets_of_word (get_or words (i - 1) 0))) → octets_of_words (take (i + 1) (slice_set words i word)) ≡ schedule (octets_of_words (take nk first)) (i + 1)
+pub expand_more : (words first : List ℕ) (word nk i : ℕ) → IsKeyLength (4 * nk) → length first ≡ 60 → length words ≡ 60 → nk ≤ i
+    → i < 4 * nk + 28 → octets_of_words (take i words) ≡ schedule (octets_of_words (take nk first)) i
+    → octets_of_word word ≡ add_words (octets_of_word (get_or words (i - nk) 0)) (schedule_core nk i (octets_of_word (get_or words (i - 1) 0)))
+    → octets_of_words (take (i + 1) (slice_set words i word)) ≡ schedule (octets_of_words (take nk first)) (i + 1)
 expand_more words first word nk i is size_first size after before so_far word_is =
     let facts = key_size (4 * nk) is in
     schedule_more (octets_of_words (take nk first)) words word i nk (sym (key_of_words first nk is size_first)) (omega arith) after (omega arith) so_far word_is
 
 -- the words of a key, one more
-pub key_more : (words key : List ℕ) (word i : ℕ) → i < length words → 4 * i + 4 ≤ length key → octets_of_words (take i words) ≡ take (4 * i) key → octets_of_word word ≡ word_at key i → octets_of_words (take (i + 1) (slice_set words i word)) ≡ take (4 * (i + 1)) key
+pub key_more : (words key : List ℕ) (word i : ℕ) → i < length words → 4 * i + 4 ≤ length key
+    → octets_of_words (take i words) ≡ take (4 * i) key → octets_of_word word ≡ word_at key i
+    → octets_of_words (take (i + 1) (slice_set words i word)) ≡ take (4 * (i + 1)) key
 unfolding octets_of_words
 key_more words key word i fits fits_key so_far word_is =
     ap octets_of_words (take_more_set words i word fits)
@@ -142,7 +150,8 @@ key_more words key word i fits fits_key so_far word_is =
     ∙ rw add-one refl
 
 -- all of them
-pub key_whole : (words key : List ℕ) (i : ℕ) → IsKeyLength (length key) → length key / 4 ≤ i → i ≤ length key / 4 → octets_of_words (take i words) ≡ take (4 * i) key → octets_of_words (take (length key / 4) words) ≡ key
+pub key_whole : (words key : List ℕ) (i : ℕ) → IsKeyLength (length key) → length key / 4 ≤ i → i ≤ length key / 4
+    → octets_of_words (take i words) ≡ take (4 * i) key → octets_of_words (take (length key / 4) words) ≡ key
 key_whole words key i is least most so_far =
     let facts = key_size (length key) is in
     let e : length key / 4 ≡ i = omega arith in

@@ -29,7 +29,9 @@ pub risen_since : (a b c : ℕ) → a ≤ b → HasRisen b c → HasRisen a c
 risen_since a b c h r = omega arith
 
 -- what a sink has after a piece of which a beginning was written, behind a front that was written
-pub told_in_front : (old mid new : Option (List ℕ)) (front piece back whole : List ℕ) (a b c : ℕ) → IfSome old (λ before. mid ≡ Some (before ++ front)) → Tells mid new piece b c → a ≤ b → HasRisen b c → whole ≡ front ++ (piece ++ back) → Tells old new whole a c
+pub told_in_front : (old mid new : Option (List ℕ)) (front piece back whole : List ℕ) (a b c : ℕ)
+    → IfSome old (λ before. mid ≡ Some (before ++ front)) → Tells mid new piece b c → a ≤ b → HasRisen b c
+    → whole ≡ front ++ (piece ++ back) → Tells old new whole a c
 told_in_front None mid new front piece back whole a b c m t le r e = tt
 told_in_front (Some before) mid new front piece back whole a b c m t le r e =
     let told : Tells (Some (before ++ front)) new piece b c = subst (λ o. Tells o new piece b c) m t in
@@ -46,7 +48,8 @@ told_in_front (Some before) mid new front piece back whole a b c m t le r e =
     )
 
 -- a sink has a piece more
-pub told_more : (old mid new : Option (List ℕ)) (front piece more : List ℕ) → IfSome old (λ before. mid ≡ Some (before ++ front)) → IfSome mid (λ before. new ≡ Some (before ++ piece)) → more ≡ front ++ piece → IfSome old (λ before. new ≡ Some (before ++ more))
+pub told_more : (old mid new : Option (List ℕ)) (front piece more : List ℕ) → IfSome old (λ before. mid ≡ Some (before ++ front))
+    → IfSome mid (λ before. new ≡ Some (before ++ piece)) → more ≡ front ++ piece → IfSome old (λ before. new ≡ Some (before ++ more))
 told_more None mid new front piece more m w e = tt
 told_more (Some before) mid new front piece more m w e =
     subst (λ o. IfSome o (λ b. new ≡ Some (b ++ piece))) m w ∙ ap Some (append_assoc before front piece ∙ ap (λ p. before ++ p) (sym e))

@@ -1,5 +1,6 @@
 -- The tries that the code finds by places are those under the contexts that are held.
-use Rattle.std.proofs.Common.{◌≡◌, ℕ, zero, suc, ◌+◌, ◌*◌, ◌^◌, ◌<◌, Bool, true, false, cond, List, [], ◌∷◌, ◌++◌, length, reverse, take, filter, Option, Some, None, Result, Ok, Err, refl, ap, ◌∙◌, sym, arith, sub-one, append-nil, append_assoc}
+use Rattle.std.proofs.Common.{◌≡◌, ℕ, zero, suc, ◌+◌, ◌*◌, ◌^◌, ◌<◌, Bool, true, false, cond, List, [], ◌∷◌, ◌++◌, length, reverse, take}
+use Rattle.std.proofs.Common.{filter, Option, Some, None, Result, Ok, Err, refl, ap, ◌∙◌, sym, arith, sub-one, append-nil, append_assoc}
 use Rattle.std.specs.Prelude.{◌==◌, slice_get, position}
 use Rattle.std.specs.List.{filter_map, cons_option}
 use Rattle.std.specs.Option.{option_map}

@@ -137,7 +137,8 @@ place_index streams h inner block field change index is =
     (by_room (is_full_for streams h.ssrc) (nat_lt 1500 (relayed_length h inner block change + length (spelling field))) fault.StreamLimit fault.Room (as_forwarded (tx_index (accepted_of streams h.ssrc) (relayed h change).seq)) index is)
 
 -- and is below 2^48.
-pub place_below : (streams : List OuterStream) (h : Header) (inner : List ℕ) (block : Ohb) (field : Field) (change : Rewrite) (index : ℕ) → media_place streams h inner block field change ≡ Ok index → index < 2 ^ 48
+pub place_below : (streams : List OuterStream) (h : Header) (inner : List ℕ) (block : Ohb) (field : Field) (change : Rewrite) (index : ℕ)
+    → media_place streams h inner block field change ≡ Ok index → index < 2 ^ 48
 place_below streams h inner block field change index is =
     (tx_is_nearest (accepted_of streams h.ssrc) (relayed h change).seq index (omega arith) (place_index streams h inner block field change index is)).in_range
 

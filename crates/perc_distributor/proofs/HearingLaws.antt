@@ -43,9 +43,11 @@ use Rattle.perc_distributor.specs.Inbound.{Heard, Packet, heard_of, in_set, noth
 use Rattle.perc_distributor.specs.Kept.{holds, kept_of}
 use Rattle.perc_distributor.specs.Rooms.{is_free, staying}
 use Rattle.perc_distributor.specs.Tables.{Differ, IsPlaceOf}
-use Rattle.perc_distributor.specs.Hearing.{AreOrigins, HasHeardAt, HasOpened, HasTaken, Hears, HearsBut, HearsStill, IsAnswer, IsFreeFor, IsHeard, IsNothing, IsPlaceFor, IsSettled, IsSomePlain, Origin, SameHeard, Takes, TakesFrom, control_from, is_control, is_verified, media_from, opened_from, settled}
+use Rattle.perc_distributor.specs.Hearing.{AreOrigins, HasHeardAt, HasOpened, HasTaken, Hears, HearsBut, HearsStill, IsAnswer, IsFreeFor, IsHeard, IsNothing, IsPlaceFor}
+use Rattle.perc_distributor.specs.Hearing.{IsSettled, IsSomePlain, Origin, SameHeard, Takes, TakesFrom, control_from, is_control, is_verified, media_from, opened_from, settled}
 use Rattle.perc_distributor.proofs.Entries.{entry_in}
-use Rattle.perc_distributor.proofs.PlaceLaws.{Fills, any_find, any_set_same, differ_new, differ_set, differ_staying, either_some, fills, find_new, find_staying, found_past, found_with, holds_is, holds_other, holds_own, length_staying, none_any, set_twice}
+use Rattle.perc_distributor.proofs.PlaceLaws.{Fills, any_find, any_set_same, differ_new, differ_set, differ_staying, either_some, fills, find_new}
+use Rattle.perc_distributor.proofs.PlaceLaws.{find_staying, found_past, found_with, holds_is, holds_other, holds_own, length_staying, none_any, set_twice}
 
 -- ---- a refused datagram isn't one that ends in no block
 
@@ -118,7 +120,8 @@ reached_not keys own streams datagram o is = by_field keys own streams (field_of
 -- ---- what is taken, by what is opened of an entry
 
 -- What is opened was verified, or changes nothing.
-same_either : (b : Bool) (set : List Entry) (heard : List Heard) (step : Result Packet InboundFault × Heard) → is_verified step.0 ≡ b → settled set heard step ≡ (step.0, cond b (with_heard set heard step.1) heard)
+same_either : (b : Bool) (set : List Entry) (heard : List Heard) (step : Result Packet InboundFault × Heard) → is_verified step.0 ≡ b
+    → settled set heard step ≡ (step.0, cond b (with_heard set heard step.1) heard)
 same_either b set heard step is = ap (λ (v : Bool). (step.0, cond v (with_heard set heard step.1) heard)) is
 
 outer_refused : (set : List Entry) (heard : List Heard) (e : Entry) (h : Heard) (f : OuterFault) → ((o : OhbFault) → Refused f ≡ Refused (out.Ohb o) → ⊥)
@@ -152,7 +155,8 @@ by_kind set heard None entry datagram = (Err fault.NotMedia, heard)
 by_kind set heard (Some rtcp) None datagram = (Err fault.NoAssociation, heard)
 by_kind set heard (Some rtcp) (Some e) datagram = settled set heard (opened_from e (heard_of heard e.serial) rtcp datagram)
 
-of_kind : (set : List Entry) (heard : List Heard) (kind : Carried) (entry : Option Entry) (datagram : List ℕ) → taken_of set heard kind entry datagram ≡ by_kind set heard (is_control kind) entry datagram
+of_kind : (set : List Entry) (heard : List Heard) (kind : Carried) (entry : Option Entry) (datagram : List ℕ)
+    → taken_of set heard kind entry datagram ≡ by_kind set heard (is_control kind) entry datagram
 of_kind set heard carried.Dtls entry datagram = refl
 of_kind set heard carried.Other entry datagram = refl
 of_kind set heard carried.Rtp None datagram = refl
@@ -375,7 +379,8 @@ passes_own entries serial t same = grind (arith, nat_tests)
 passes_other : (entries : List Entry) (serial t : ℕ) → (serial ≡ t → ⊥) → passes entries serial t ≡ in_set entries t
 passes_other entries serial t apart = grind (arith, nat_tests)
 
-settles_own : (entries : List Entry) (kept : List Origin) (serial at : ℕ) (was now : Origin) (heard : List Heard) (h : Heard) → Settles entries kept serial at was now → h.serial ≡ serial → IsHeard was h
+settles_own : (entries : List Entry) (kept : List Origin) (serial at : ℕ) (was now : Origin) (heard : List Heard) (h : Heard)
+    → Settles entries kept serial at was now → h.serial ≡ serial → IsHeard was h
     → SameHeard (kept_of (map (staying entries) (set kept at now)) serial) (heard_of (with_heard entries heard h) serial)
 settles_own entries kept serial at was now heard h s its is =
     let kept_is : kept_of (map (staying entries) (set kept at now)) serial ≡ Some now =

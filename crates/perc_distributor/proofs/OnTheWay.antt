@@ -23,7 +23,8 @@ use Rattle.perc_distributor.specs.Inbound.{Heard, Media, Packet, heard_of, taken
 use Rattle.perc_distributor.specs.Laws.{Awaits, ComesFrom, HasSpelling, datagram_of, opened_after, opened_as}
 use Rattle.perc_distributor.specs.Parts.{media_datagram}
 
-pub sealed_reached : (keys : KeyAndSalt) (own : Option ℕ) (streams : List OuterStream) (h : Header) (inner : List ℕ) (o : Ohb) (field : Field) (index : ℕ) → HasSpelling h o field → Awaits own streams h index
+pub sealed_reached : (keys : KeyAndSalt) (own : Option ℕ) (streams : List OuterStream) (h : Header) (inner : List ℕ) (o : Ohb) (field : Field) (index : ℕ)
+    → HasSpelling h o field → Awaits own streams h index
     → reached keys own streams (datagram_of keys index h inner o field) ≡ Reached (opened_as index h inner o field)
 sealed_reached keys own streams h inner o field index spelled awaits =
     let rest : List ℕ = sealed_body keys index h (opened inner o) in

@@ -112,7 +112,8 @@ differ_head : {R : Type 0} (b : Bool) (t : ℕ) (streams : List Stream) (rtcp : 
 differ_head true t streams rtcp now none rest = (none, rest)
 differ_head false t streams rtcp now none rest = (tt, rest)
 
-differ_first : {R : Type 0} (q : ℕ → Bool) (o : Option ℕ) (streams : List Stream) (rtcp : R) (kept : List (Place R)) → IfSome o (λ s. list_any (holds s) kept ≡ false) → Differ (map (staying_by q) kept)
+differ_first : {R : Type 0} (q : ℕ → Bool) (o : Option ℕ) (streams : List Stream) (rtcp : R) (kept : List (Place R))
+    → IfSome o (λ s. list_any (holds s) kept ≡ false) → Differ (map (staying_by q) kept)
     → Differ (map (staying_by q) (record { serial = o; streams = streams; rtcp = rtcp } ∷ kept))
 differ_first q None streams rtcp kept none rest = (tt, rest)
 differ_first q (Some t) streams rtcp kept none rest = differ_head (q t) t streams rtcp (map (staying_by q) kept) (any_staying q kept t none) rest

@@ -107,7 +107,8 @@ sends_stands kept sealing serial at was now after s stands its is = record {
 }
 
 -- what stands in its place was sealed for the serial
-pub stands_at : (kept : List Kept) (sealing : List Sealing) (serial at : ℕ) (was : Kept) → IsPlaceOf kept serial at → was ≡ get_or kept at was → StandsFor kept sealing → IsSealing was (sealing_of sealing serial)
+pub stands_at : (kept : List Kept) (sealing : List Sealing) (serial at : ℕ) (was : Kept) → IsPlaceOf kept serial at
+    → was ≡ get_or kept at was → StandsFor kept sealing → IsSealing was (sealing_of sealing serial)
 stands_at kept sealing serial at was place is stands =
     let found : kept_of kept serial ≡ Some was = place.found was ∙ ap (λ (k : Kept). Some k) (sym is) in
     subst (λ (o : Option Kept). SameSealing o (sealing_of sealing serial)) found (stands.each serial)

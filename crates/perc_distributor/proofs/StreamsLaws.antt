@@ -92,7 +92,8 @@ begins_room kept before h place b few =
     (room_by (list_any (is_of h.ssrc) before) (length before) (omega (arith, b.stands.count)), ap (λ (o : Option OuterStream). option_map_or (λ s. s.accepted) o []) none.0)
 
 -- It is sealed as in a stream where nothing was sealed.
-pub begins_place : (kept : List Stream) (before : List OuterStream) (h : Header) (place : ℕ) (inner : List ℕ) (o : Ohb) (field : Field) (change : Rewrite) → Begins kept before h place → length kept < 256
+pub begins_place : (kept : List Stream) (before : List OuterStream) (h : Header) (place : ℕ) (inner : List ℕ) (o : Ohb) (field : Field) (change : Rewrite)
+    → Begins kept before h place → length kept < 256
     → media_place before h inner o field change ≡ stream_place [] h inner o field change
 begins_place kept before h place inner o field change b few =
     let room = begins_room kept before h place b few in

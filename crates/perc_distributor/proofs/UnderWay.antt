@@ -52,7 +52,8 @@ packet_begins kept number of set place p change only before only_of = record {
   few = omega arith;
 }
 
-next_recipients : (number of : ℕ) (set : List Entry) (i : ℕ) (e : Entry) (p : Plain) (only : Option (List (List ℕ))) (packet : Packet) (b : Bool) → slice_get set i ≡ Some e → is_to number of only p.from e ≡ b
+next_recipients : (number of : ℕ) (set : List Entry) (i : ℕ) (e : Entry) (p : Plain) (only : Option (List (List ℕ))) (packet : Packet) (b : Bool)
+    → slice_get set i ≡ Some e → is_to number of only p.from e ≡ b
     → IsPlain p packet → recipients number of (take (i + 1) set) only packet ≡ recipients number of (take i set) only packet ++ cond b (e ∷ []) []
 next_recipients number of set i e p only packet b at test is =
     ap (λ (es : List Entry). recipients number of es only packet) (take_at set i e at)

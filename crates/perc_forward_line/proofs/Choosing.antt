@@ -81,7 +81,8 @@ names_begin c list so_far none = record {
   present = λ s mirrors. ap (are_present s) none;
 }
 
-pub names_step : (c : code.Conference) (list so_far left rest more : List (List ℕ)) (name : List ℕ) → NamesSoFar c list so_far left → left ≡ name ∷ rest → ((s : State) → Mirrors c s → (m : Member) × (member_named name s ≡ Some m))
+pub names_step : (c : code.Conference) (list so_far left rest more : List (List ℕ)) (name : List ℕ) → NamesSoFar c list so_far left
+    → left ≡ name ∷ rest → ((s : State) → Mirrors c s → (m : Member) × (member_named name s ≡ Some m))
     → more ≡ so_far ++ name ∷ [] → NamesSoFar c list more rest
 names_step c list so_far left rest more name h is there push = record {
   split = ap (λ (xs : List (List ℕ)). xs ++ rest) push ∙ split_more so_far rest name ∙ split_on so_far left rest list name h.split is;
@@ -90,7 +91,8 @@ names_step c list so_far left rest more name h is there push = record {
       ap (are_present s) push ∙ all_push (λ (n : List ℕ). list_any (is_present n) s.members) so_far name (h.present s mirrors) (found_any (is_present name) s.members m.0 m.1);
 }
 
-pub names_absent : (c : code.Conference) (s : State) (names : Option (List (List ℕ))) (list so_far left rest : List (List ℕ)) (name : List ℕ) (result : Result (Option (Vec word.Name)) Stop) (e : Stop) → NamesSoFar c list so_far left
+pub names_absent : (c : code.Conference) (s : State) (names : Option (List (List ℕ))) (list so_far left rest : List (List ℕ)) (name : List ℕ) (result : Result (Option (Vec word.Name)) Stop) (e : Stop)
+    → NamesSoFar c list so_far left
     → names ≡ Some list → left ≡ name ∷ rest → member_named name s ≡ None → result ≡ Err e → e ≡ stop.Refused reason.Name → AreRecipients s names result
 names_absent c s names list so_far left rest name result e h some is absent err refused =
     let fails : are_present s list ≡ false = ap (are_present s) (sym (split_on so_far left rest list name h.split is))
@@ -115,7 +117,8 @@ numbers_begin c list so_far none = record {
   there = λ s mirrors. ap (are_there s) none;
 }
 
-pub numbers_step : (c : code.Conference) (list so_far left rest more : List ℕ) (number : ℕ) → NumbersSoFar c list so_far left → left ≡ number ∷ rest → ((s : State) → Mirrors c s → (d : Datagram) × (datagram_at s.datagrams number ≡ Some d))
+pub numbers_step : (c : code.Conference) (list so_far left rest more : List ℕ) (number : ℕ) → NumbersSoFar c list so_far left
+    → left ≡ number ∷ rest → ((s : State) → Mirrors c s → (d : Datagram) × (datagram_at s.datagrams number ≡ Some d))
     → more ≡ so_far ++ number ∷ [] → NumbersSoFar c list more rest
 numbers_step c list so_far left rest more number h is there push = record {
   split = ap (λ (xs : List ℕ). xs ++ rest) push ∙ split_more so_far rest number ∙ split_on so_far left rest list number h.split is;

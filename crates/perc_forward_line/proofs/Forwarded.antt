@@ -30,14 +30,16 @@ use Rattle.perc_forward_line.proofs.Reporting.{Step}
 keeps_all : (datagrams : List Datagram) → KeepsDatagrams datagrams datagrams
 keeps_all datagrams number d h = h
 
-pub takes_all_of : (c d : code.Conference) (s : State) (from numbers : List ℕ) → Mirrors c s → KeepsRest c d → d.datagrams ≡ c.datagrams → TakesMore s [] from (numbered s.datagrams numbers) d.distributor → TakesAll s from numbers d
+pub takes_all_of : (c d : code.Conference) (s : State) (from numbers : List ℕ) → Mirrors c s → KeepsRest c d → d.datagrams ≡ c.datagrams
+    → TakesMore s [] from (numbered s.datagrams numbers) d.distributor → TakesAll s from numbers d
 takes_all_of c d s from numbers mirrors rest same h = record {
   taken = h;
   mirrors = mirrors_after c d s (takings s.set s.heard from (numbered s.datagrams numbers)).1 s.sealing s.datagrams mirrors rest h.mirrors (keeps_all s.datagrams)
       (subst (λ (v : Vec code_datagram.Datagram). MirrorEach MirrorsDatagram v.items s.datagrams) (sym same) mirrors.datagrams);
 }
 
-pub seals_all : (c d : code.Conference) (s : State) (taken : List Taking) (change : Rewrite) (only : Option (List (List ℕ))) (to : Option (List (List ℕ))) → Mirrors c s → KeepsRest c d → d.datagrams ≡ c.datagrams
+pub seals_all : (c d : code.Conference) (s : State) (taken : List Taking) (change : Rewrite) (only : Option (List (List ℕ))) (to : Option (List (List ℕ)))
+    → Mirrors c s → KeepsRest c d → d.datagrams ≡ c.datagrams
     → only ≡ option_map (associations_of s) to → SealsBatch s taken change only d.distributor → SealsAll s taken change to d
 seals_all c d s taken change only to mirrors rest same is batch =
     let h = subst (λ (o : Option (List (List ℕ))). SealsBatch s taken change o d.distributor) is batch in
@@ -97,7 +99,8 @@ module _ (members : List Member) (change : Rewrite) where
 
 -- ---- what is told in a conference
 
-pub is_telling : (t : Telling) (c : code.Conference) (s : State) (taken : List Taking) → IsSealed s taken (rewrite_of t.change.now) c → t.members.now ≡ c.members.items → t.distributor.now ≡ c.distributor
+pub is_telling : (t : Telling) (c : code.Conference) (s : State) (taken : List Taking) → IsSealed s taken (rewrite_of t.change.now) c
+    → t.members.now ≡ c.members.items → t.distributor.now ≡ c.distributor
     → IsTelling t s.members taken (map sent_of c.distributor.outputs)
 is_telling t c s taken h members distributor = record {
   members_are = subst (λ (cs : List code_member.Member). MirrorEach MirrorsMember cs s.members) (sym members) h.mirrors.members;
@@ -106,7 +109,8 @@ is_telling t c s taken h members distributor = record {
   right = h.right;
 }
 
-pub tells_all : (s : State) (taken : List Taking) (change : Rewrite) (old new : code.Conference) (result : Result Told Stop) (before after : List ℕ) → IsSealed s taken change old → KeepsRest old new → new.distributor ≡ old.distributor
+pub tells_all : (s : State) (taken : List Taking) (change : Rewrite) (old new : code.Conference) (result : Result Told Stop) (before after : List ℕ)
+    → IsSealed s taken change old → KeepsRest old new → new.distributor ≡ old.distributor
     → Reports (reported_takings s.members change (map sent_of old.distributor.outputs) 0 s.datagrams taken) s.datagrams old.datagrams.items result before after new.datagrams.items
     → TellsAll s taken change old result before after new
 tells_all s taken change old new (Err e) before after sealed rest same h = h

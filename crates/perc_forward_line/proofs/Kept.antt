@@ -64,7 +64,8 @@ sent_kept members s heard sealing datagrams keeps h =
       only_numbers = All-weaker (HasNumbers s) (HasNumbers t) (λ m f index number at. let r = f index number at in record { row = r.row; there = r.there; ssrc = r.ssrc; index_is = r.index_is }) members h.only_numbers;
     }
 
-pub mirrors_after : (c d : code.Conference) (s : State) (heard : List Heard) (sealing : List Sealing) (datagrams : List Datagram) → Mirrors c s → KeepsRest c d → MirrorsDistributor d.distributor (gone_on s heard sealing s.datagrams)
+pub mirrors_after : (c d : code.Conference) (s : State) (heard : List Heard) (sealing : List Sealing) (datagrams : List Datagram)
+    → Mirrors c s → KeepsRest c d → MirrorsDistributor d.distributor (gone_on s heard sealing s.datagrams)
     → KeepsDatagrams s.datagrams datagrams → MirrorEach MirrorsDatagram d.datagrams.items datagrams → Mirrors d (gone_on s heard sealing datagrams)
 mirrors_after c d s heard sealing datagrams m rest distributor keeps made =
     let t = gone_on s heard sealing datagrams in

@@ -32,7 +32,8 @@ named o = option_map_or (λ m. m.name) o []
 abbrev called : Option Member → List ℕ
 called o = option_map_or (λ m. m.name) o []
 
-pick : (b : Bool) (c : code_member.Member) (m : Member) (x : Option code_member.Member) (y : Option Member) → c.name ≡ m.name → named x ≡ called y → named (cond b (Some c) x) ≡ called (cond b (Some m) y)
+pick : (b : Bool) (c : code_member.Member) (m : Member) (x : Option code_member.Member) (y : Option Member) → c.name ≡ m.name
+    → named x ≡ called y → named (cond b (Some c) x) ≡ called (cond b (Some m) y)
 pick true c m x y here rest = here
 pick false c m x y here rest = rest
 
@@ -52,7 +53,8 @@ found_name r o cs ms a is found m =
     ap named e ∙ name_found cs ms a m
 
 -- an association is a member's of the code where it is one's of the definition
-pub any_known : (cs : List code_member.Member) (ms : List Member) (a : List ℕ) → MirrorEach MirrorsMember cs ms → list_any (λ m. bytes_eq a m.association) cs ≡ list_any (λ m. bytes_eq a m.association) ms
+pub any_known : (cs : List code_member.Member) (ms : List Member) (a : List ℕ) → MirrorEach MirrorsMember cs ms
+    → list_any (λ m. bytes_eq a m.association) cs ≡ list_any (λ m. bytes_eq a m.association) ms
 any_known [] [] a m = refl
 any_known [] (y ∷ ms) a m = absurd (omega (arith, m.count))
 any_known (x ∷ cs) [] a m = absurd (omega (arith, m.count))

@@ -39,7 +39,8 @@ pub record OutputsSoFar (t : Telling) (number place i : ℕ) (had has : List cod
       → slice_get (filter_map packet_in taken) place ≡ Some packet → MirrorEach MirrorsDatagram had made
       → IsReported (reported_outputs members (rewrite_of t.change.now) number packet made (outputs_at place (take i sent))) told before after has
 
-pub outputs_begin : (t : Telling) (number place : ℕ) (had : List code_datagram.Datagram) (text : List ℕ) → OutputsSoFar t number place 0 had had text text (record { datagrams = 0; accepted = 0; refused = 0 })
+pub outputs_begin : (t : Telling) (number place : ℕ) (had : List code_datagram.Datagram) (text : List ℕ)
+    → OutputsSoFar t number place 0 had had text text (record { datagrams = 0; accepted = 0; refused = 0 })
 outputs_begin t number place had text = record { each = λ members taken sent packet made is there mirrors. reported_none text made had mirrors }
 
 outputs_more : (place i : ℕ) (sent : List Sent) (x : Sent) → slice_get sent i ≡ Some x → outputs_at place (take (i + 1) sent) ≡ outputs_at place (take i sent) ++ outputs_at place (x ∷ [])
@@ -52,7 +53,8 @@ OutputTold t number place output had has result before after =
     → slice_get (filter_map packet_in taken) place ≡ Some packet
     → Reports (reported_outputs members (rewrite_of t.change.now) number packet made (outputs_at place (sent_of output ∷ []))) made had result before after has
 
-pub outputs_step : (t : Telling) (number place i : ℕ) (output : Output) (had mid has : List code_datagram.Datagram) (before between after : List ℕ) (told one all : Told) → OutputsSoFar t number place i had mid before between told
+pub outputs_step : (t : Telling) (number place i : ℕ) (output : Output) (had mid has : List code_datagram.Datagram) (before between after : List ℕ) (told one all : Told)
+    → OutputsSoFar t number place i had mid before between told
     → slice_get t.distributor.now.outputs i ≡ Some output → OutputTold t number place output mid has (Ok one) between after → all ≡ told_and told one → OutputsSoFar t number place (i + 1) had has before after all
 outputs_step t number place i output had mid has before between after told one all so_far at adds sum = record {
   each = λ members taken sent packet made is there mirrors.
@@ -89,7 +91,8 @@ outputs_now t number place i had has before after told h within so_far =
     }
 
 -- an output that is told alone
-pub one_few : (t : Telling) (number place : ℕ) (output : Output) (i : ℕ) (had has : List code_datagram.Datagram) (before after : List ℕ) (one : Told) → CanTell t had → place < length t.distributor.now.batch.items
+pub one_few : (t : Telling) (number place : ℕ) (output : Output) (i : ℕ) (had has : List code_datagram.Datagram) (before after : List ℕ) (one : Told)
+    → CanTell t had → place < length t.distributor.now.batch.items
     → OutputTold t number place output had has (Ok one) before after → IsFew one 1
 one_few t number place output i had has before after one h within adds =
     let change = rewrite_of t.change.now in
@@ -106,7 +109,8 @@ outputs_count t had h =
     omega (arith, h.is.right.few, ap (λ (xs : List Sent). length xs) h.is.outputs, length-map t.distributor.now.outputs sent_of)
 
 -- all of them
-pub outputs_all : (t : Telling) (number place i : ℕ) (had has : List code_datagram.Datagram) (before after : List ℕ) (told : Told) → length t.distributor.now.outputs ≤ i → OutputsSoFar t number place i had has before after told
+pub outputs_all : (t : Telling) (number place i : ℕ) (had has : List code_datagram.Datagram) (before after : List ℕ) (told : Told)
+    → length t.distributor.now.outputs ≤ i → OutputsSoFar t number place i had has before after told
     → (members : List Member) (taken : List Taking) (sent : List Sent) (packet : Packet) (made : List Datagram) → IsTelling t members taken sent
     → slice_get (filter_map packet_in taken) place ≡ Some packet → MirrorEach MirrorsDatagram had made
     → IsReported (reported_outputs members (rewrite_of t.change.now) number packet made (outputs_at place sent)) told before after has
@@ -138,7 +142,8 @@ mapped : {A B : Type 0} (f : A → B) (o : Option A) (b : B) → option_map f o 
 mapped f None b e = absurd cc
 mapped f (Some a) b e = (a, refl, sym (same_Some _ _ e))
 
-pub taking_at : (t : Telling) (members : List Member) (taken : List Taking) (sent : List Sent) (i : ℕ) (k : code_taking.Taking) → IsTelling t members taken sent → slice_get t.distributor.now.takings.items i ≡ Some k → TakingAt taken i k
+pub taking_at : (t : Telling) (members : List Member) (taken : List Taking) (sent : List Sent) (i : ℕ) (k : code_taking.Taking)
+    → IsTelling t members taken sent → slice_get t.distributor.now.takings.items i ≡ Some k → TakingAt taken i k
 taking_at t members taken sent i k is at =
     let e : option_map taking_in (slice_get taken i) ≡ Some k = sym (slice_get-map taking_in taken i) ∙ ap (λ (xs : List code_taking.Taking). slice_get xs i) (sym is.takings_are.takings_are) ∙ at in
     let m = mapped taking_in (slice_get taken i) k e in
@@ -182,7 +187,8 @@ TakingTold t k place had has result before after =
     (members : List Member) (taken : List Taking) (sent : List Sent) (u : Taking) (made : List Datagram) → IsTelling t members taken sent → k ≡ taking_in u → IsAt taken place u.result
     → Reports (reported_taking members (rewrite_of t.change.now) sent place made u.number u.result) made had result before after has
 
-pub takings_step : (t : Telling) (i place next : ℕ) (k : code_taking.Taking) (had mid has : List code_datagram.Datagram) (before between after : List ℕ) (told one all : Told) → TakingsSoFar t i had mid before between told place
+pub takings_step : (t : Telling) (i place next : ℕ) (k : code_taking.Taking) (had mid has : List code_datagram.Datagram) (before between after : List ℕ) (told one all : Told)
+    → TakingsSoFar t i had mid before between told place
     → slice_get t.distributor.now.takings.items i ≡ Some k → TakingTold t k place mid has (Ok one) between after → all ≡ told_and told one → next ≡ place + from_bool (is_none k.fault) → TakingsSoFar t (i + 1) had has before after all next
 takings_step t i place next k had mid has before between after told one all so_far at adds sum goes_on = record {
   each = λ members taken sent made is mirrors.
@@ -226,7 +232,8 @@ pub record TakingsNow (t : Telling) (i place : ℕ) (had has : List code_datagra
   pub count : length t.distributor.now.takings.items ≤ 32
   pub place_few : place ≤ i
 
-pub takings_now : (t : Telling) (i place : ℕ) (had has : List code_datagram.Datagram) (before after : List ℕ) (told : Told) → CanTell t had → TakingsSoFar t i had has before after told place → TakingsNow t i place had has told
+pub takings_now : (t : Telling) (i place : ℕ) (had has : List code_datagram.Datagram) (before after : List ℕ) (told : Told) → CanTell t had
+    → TakingsSoFar t i had has before after told place → TakingsNow t i place had has told
 takings_now t i place had has before after told h so_far =
     let change = rewrite_of t.change.now in
     let first = so_far.each h.members h.taken h.sent h.made h.is h.datagrams in
@@ -242,7 +249,8 @@ takings_now t i place had has before after told h so_far =
     }
 
 -- a taking that is told alone
-pub taking_few : (t : Telling) (i place : ℕ) (k : code_taking.Taking) (had mid has : List code_datagram.Datagram) (before between after : List ℕ) (told one : Told) → CanTell t had → TakingsSoFar t i had mid before between told place
+pub taking_few : (t : Telling) (i place : ℕ) (k : code_taking.Taking) (had mid has : List code_datagram.Datagram) (before between after : List ℕ) (told one : Told)
+    → CanTell t had → TakingsSoFar t i had mid before between told place
     → slice_get t.distributor.now.takings.items i ≡ Some k → TakingTold t k place mid has (Ok one) between after → IsFew one 8193
 taking_few t i place k had mid has before between after told one h so_far at adds =
     let change = rewrite_of t.change.now in
@@ -254,12 +262,14 @@ taking_few t i place k had mid has before between after told one h so_far at add
     (omega (arith, taking_lines h.members change h.sent place old.1 u.taking.number u.taking.result, h.is.right.few))
 
 -- the packet of a taking that opened is in the batch
-within_if : (o : Option InboundFault) (taken : List Taking) (place n : ℕ) (number : ℕ) (r : Result Packet InboundFault) → o ≡ fault_in r → n ≡ length (filter_map packet_in taken) → IsAt taken place r → IfNone o (place < n)
+within_if : (o : Option InboundFault) (taken : List Taking) (place n : ℕ) (number : ℕ) (r : Result Packet InboundFault) → o ≡ fault_in r
+    → n ≡ length (filter_map packet_in taken) → IsAt taken place r → IfNone o (place < n)
 within_if o taken place n number (Err f) is size at = subst (λ (x : Option InboundFault). IfNone x (place < n)) (sym is) tt
 within_if o taken place n number (Ok packet) is size at =
     subst (λ (x : Option InboundFault). IfNone x (place < n)) (sym is) (omega (arith, slice_get_within (filter_map packet_in taken) place packet at))
 
-pub taking_within : (t : Telling) (i place : ℕ) (k : code_taking.Taking) (had has : List code_datagram.Datagram) (before after : List ℕ) (told : Told) (n : ℕ) → CanTell t had → TakingsSoFar t i had has before after told place
+pub taking_within : (t : Telling) (i place : ℕ) (k : code_taking.Taking) (had has : List code_datagram.Datagram) (before after : List ℕ) (told : Told) (n : ℕ)
+    → CanTell t had → TakingsSoFar t i had has before after told place
     → slice_get t.distributor.now.takings.items i ≡ Some k → n ≡ length t.distributor.now.batch.items → IfNone k.fault (place < n)
 taking_within t i place k had has before after told n h so_far at size =
     let u = taking_at t h.members h.taken h.sent i k h.is at in
@@ -267,7 +277,8 @@ taking_within t i place k had has before after told n h so_far at size =
     (size ∙ plain_length t.distributor.now.batch.items (filter_map packet_in h.taken) h.is.takings_are.batch) (is_at h.taken i place u.taking u.there (so_far.behind h.members h.taken h.sent h.is))
 
 -- all of them
-pub takings_all : (t : Telling) (i place : ℕ) (had has : List code_datagram.Datagram) (before after : List ℕ) (told : Told) → length t.distributor.now.takings.items ≤ i → TakingsSoFar t i had has before after told place
+pub takings_all : (t : Telling) (i place : ℕ) (had has : List code_datagram.Datagram) (before after : List ℕ) (told : Told)
+    → length t.distributor.now.takings.items ≤ i → TakingsSoFar t i had has before after told place
     → (members : List Member) (taken : List Taking) (sent : List Sent) (made : List Datagram) → IsTelling t members taken sent → MirrorEach MirrorsDatagram had made
     → IsReported (reported_takings members (rewrite_of t.change.now) sent 0 made taken) told before after has
 takings_all t i place had has before after told whole so_far members taken sent made is mirrors =

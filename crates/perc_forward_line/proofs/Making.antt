@@ -24,7 +24,8 @@ use Rattle.perc_distributor.specs.declared.fault.ForwardFault.{ForwardFault}
 use Rattle.perc_distributor.specs.declared.fault.ForwardFault.TheVariants as fault
 use Rattle.perc_distributor.specs.declared.plain.Plain.{Plain}
 use Rattle.perc_distributor.specs.Inbound.{Control, Media, Packet, in_set}
-use Rattle.perc_distributor.specs.Forwarding.{Dropped, Sealed, Sealing, Sent, is_named, is_owned, media_place, media_step, most_octets, recipients, sealing_of, sent_control, sent_each, sent_from, sent_media, sent_to, source_of, with_sealing}
+use Rattle.perc_distributor.specs.Forwarding.{Dropped, Sealed, Sealing, Sent, is_named, is_owned, media_place, media_step, most_octets, recipients}
+use Rattle.perc_distributor.specs.Forwarding.{sealing_of, sent_control, sent_each, sent_from, sent_media, sent_to, source_of, with_sealing}
 use Rattle.perc_distributor.specs.Kept.{ArePlain, IsPlain}
 use Rattle.perc_run.specs.Forwarding.{Taking, packet_in}
 use Rattle.perc_run.specs.Sound.{entries_from}
@@ -171,7 +172,8 @@ module _ (members : List Member) (packets : List Packet) (change : Rewrite) (may
         let more : List Sent × List Sealing = sent_from number of set (place + 1) rest change only one.1 in
         omega (arith, from_count (place + 1) rest one.1 few, length-append one.0 more.0, each_count to place packet sealing, few_recipients packet)
 
-step_right : (members : List Member) (set : List Entry) (batch : List Plain) (packets : List Packet) (change : Rewrite) (only : Option (List (List ℕ))) (sealing : List Sealing) (may : IsRewrite change) → All (IsMembers members) set
+step_right : (members : List Member) (set : List Entry) (batch : List Plain) (packets : List Packet) (change : Rewrite) (only : Option (List (List ℕ))) (sealing : List Sealing) (may : IsRewrite change)
+    → All (IsMembers members) set
     → ArePlain batch packets → All (IsRight members packets change may) (media_step 0 1 set packets change only sealing).0
 unfolding media_step
 step_right members set batch [] change only sealing may known are = All-nil (IsRight members [] change may)
@@ -179,7 +181,8 @@ step_right members set batch (packet ∷ packets) change only sealing may known 
     from_right members (packet ∷ packets) change may 0 1 set only known 0 batch (packet ∷ packets) (filter (λ x. in_set set x.serial) sealing) are
     (λ k. let here : 0 + k ≡ k = omega arith in ap (slice_get (packet ∷ packets)) (sym here))
 
-step_count : (members : List Member) (set : List Entry) (packets : List Packet) (change : Rewrite) (only : Option (List (List ℕ))) (sealing : List Sealing) (may : IsRewrite change) → All (IsMembers members) set → length set ≤ 256
+step_count : (members : List Member) (set : List Entry) (packets : List Packet) (change : Rewrite) (only : Option (List (List ℕ))) (sealing : List Sealing) (may : IsRewrite change)
+    → All (IsMembers members) set → length set ≤ 256
     → length (media_step 0 1 set packets change only sealing).0 ≤ 256 * length packets
 unfolding media_step
 step_count members set [] change only sealing may known few = omega arith
@@ -194,7 +197,8 @@ opened_few (t ∷ ts) = one t.number t.result (opened_few ts)
     one number (Ok packet) h = omega arith
     one number (Err f) h = omega arith
 
-pub outputs_right : (members : List Member) (set : List Entry) (batch : List Plain) (taken : List Taking) (change : Rewrite) (only : Option (List (List ℕ))) (sealing : List Sealing) → IsRewrite change → set ≡ entries_from 0 members
+pub outputs_right : (members : List Member) (set : List Entry) (batch : List Plain) (taken : List Taking) (change : Rewrite) (only : Option (List (List ℕ))) (sealing : List Sealing)
+    → IsRewrite change → set ≡ entries_from 0 members
     → length members ≤ 256 → length taken ≤ 32 → ArePlain batch (filter_map packet_in taken) → AreOutputs members taken change (media_step 0 1 set (filter_map packet_in taken) change only sealing).0
 outputs_right members set batch taken change only sealing may entries few few_taken are =
     let packets = filter_map packet_in taken in

@@ -63,7 +63,8 @@ told_few told lines n is few =
     }
 
 -- a step behind a step
-pub reported_more : (one two : Step) (told_one told_two : Told) (before mid after : List ℕ) (had has : List code_datagram.Datagram) → IsReported one told_one before mid had → IsReported two told_two mid after has
+pub reported_more : (one two : Step) (told_one told_two : Told) (before mid after : List ℕ) (had has : List code_datagram.Datagram)
+    → IsReported one told_one before mid had → IsReported two told_two mid after has
     → IsReported (one.0 ++ two.0, two.1) (told_and told_one told_two) before after has
 reported_more one two told_one told_two before mid after had has h k = record {
   text = k.text ∙ ap (λ (t : List ℕ). t ++ report_texts two.0) h.text ∙ append_assoc before (report_texts one.0) (report_texts two.0) ∙ ap (λ (t : List ℕ). before ++ t) (sym (texts_append one.0 two.0));
@@ -108,7 +109,8 @@ few_at place sent = omega (arith, length-filter (λ (x : Sent). place_of x == pl
 
 -- ---- takings
 
-place_after : (place number : ℕ) (r : Result Packet InboundFault) (ts : List Taking) → place_behind place r + length (filter_map packet_in ts) ≡ place + length (filter_map packet_in (record { number = number; result = r } ∷ ts))
+place_after : (place number : ℕ) (r : Result Packet InboundFault) (ts : List Taking)
+    → place_behind place r + length (filter_map packet_in ts) ≡ place + length (filter_map packet_in (record { number = number; result = r } ∷ ts))
 place_after place number (Ok packet) ts = omega arith
 place_after place number (Err f) ts = refl
 
@@ -192,7 +194,8 @@ of_place members change number packet made place x had has result before after i
     let here : (place_of x == place) ≡ true = grind (arith, nat_tests) in
     subst (λ (b : Bool). Reports (reported_outputs members change number packet made (cond b (x ∷ []) [])) made had result before after has) (sym here) h
 
-pub of_other : (members : List Member) (change : Rewrite) (number : ℕ) (packet : Packet) (made : List Datagram) (place : ℕ) (x : Sent) (had : List code_datagram.Datagram) (text : List ℕ) → place_of x ≢ place
+pub of_other : (members : List Member) (change : Rewrite) (number : ℕ) (packet : Packet) (made : List Datagram) (place : ℕ) (x : Sent) (had : List code_datagram.Datagram) (text : List ℕ)
+    → place_of x ≢ place
     → Reports (reported_outputs members change number packet made (outputs_at place (x ∷ []))) made had (Ok (record { datagrams = 0; accepted = 0; refused = 0 })) text text had
 of_other members change number packet made place x had text other =
     let past : (place_of x == place) ≡ false = grind (arith, nat_tests) in

@@ -36,7 +36,8 @@ plain_length [] (packet ∷ packets) are = absurd are
 plain_length (b ∷ batch) [] are = absurd are
 plain_length (b ∷ batch) (packet ∷ packets) are = ap suc (plain_length batch packets are.1)
 
-pub plain_at : (batch : List Plain) (packets : List Packet) (i : ℕ) (p : Plain) (packet : Packet) → ArePlain batch packets → slice_get batch i ≡ Some p → slice_get packets i ≡ Some packet → IsPlain p packet
+pub plain_at : (batch : List Plain) (packets : List Packet) (i : ℕ) (p : Plain) (packet : Packet) → ArePlain batch packets
+    → slice_get batch i ≡ Some p → slice_get packets i ≡ Some packet → IsPlain p packet
 plain_at [] packets i p packet are f g = absurd cc
 plain_at (b ∷ batch) [] i p packet are f g = absurd are
 plain_at (b ∷ batch) (x ∷ packets) zero p packet are f g =
@@ -58,13 +59,15 @@ packet_at taken batch place p are at =
 
 -- ---- an output
 
-pub sent_at : (t : Telling) (members : List Member) (taken : List Taking) (sent : List Sent) (output : Output) (i : ℕ) → IsTelling t members taken sent → slice_get t.distributor.now.outputs i ≡ Some output
+pub sent_at : (t : Telling) (members : List Member) (taken : List Taking) (sent : List Sent) (output : Output) (i : ℕ)
+    → IsTelling t members taken sent → slice_get t.distributor.now.outputs i ≡ Some output
     → slice_get sent i ≡ Some (sent_of output)
 sent_at t members taken sent output i is at =
     ap (λ (xs : List Sent). slice_get xs i) (sym is.outputs) ∙ slice_get-map sent_of t.distributor.now.outputs i ∙ ap (option_map sent_of) at
 
 -- it is for a member
-pub known_at : (t : Telling) (members : List Member) (taken : List Taking) (sent : List Sent) (output : Output) (i : ℕ) → IsTelling t members taken sent → slice_get t.distributor.now.outputs i ≡ Some output
+pub known_at : (t : Telling) (members : List Member) (taken : List Taking) (sent : List Sent) (output : Output) (i : ℕ)
+    → IsTelling t members taken sent → slice_get t.distributor.now.outputs i ≡ Some output
     → IsTrue (list_any (λ m. bytes_eq (to_of (sent_of output)) m.association) t.members.now)
 known_at t members taken sent output i is at =
     any_known t.members.now members (to_of (sent_of output)) is.members_are
@@ -76,12 +79,14 @@ few_octets o at to octets len sealed whole =
     let few : len ≤ 1500 = subst IsWhole sealed whole in
     omega (arith, length-take len octets)
 
-same_place : (change : Rewrite) (packets : List Packet) (place at : ℕ) (to octets : List ℕ) (packet : Packet) → at ≡ place → IsOutputOf change packets (Sealed at to octets) → slice_get packets place ≡ Some packet → IsSealedOf change packet octets
+same_place : (change : Rewrite) (packets : List Packet) (place at : ℕ) (to octets : List ℕ) (packet : Packet) → at ≡ place
+    → IsOutputOf change packets (Sealed at to octets) → slice_get packets place ≡ Some packet → IsSealedOf change packet octets
 same_place change packets place at to octets packet same is there =
     subst (λ (o : Option Packet). IfSome o (λ (x : Packet). IsSealedOf change x octets)) (ap (slice_get packets) same ∙ there) is
 
 -- and one of its packet
-pub sealed_at : (t : Telling) (members : List Member) (taken : List Taking) (sent : List Sent) (o : Output) (i place at : ℕ) (to octets : List ℕ) (len : ℕ) (packet : Packet) → IsTelling t members taken sent
+pub sealed_at : (t : Telling) (members : List Member) (taken : List Taking) (sent : List Sent) (o : Output) (i place at : ℕ) (to octets : List ℕ) (len : ℕ) (packet : Packet)
+    → IsTelling t members taken sent
     → slice_get t.distributor.now.outputs i ≡ Some o → o ≡ output.Sealed at to octets len → place_of (sent_of o) ≡ place → slice_get (filter_map packet_in taken) place ≡ Some packet
     → IsSealedOf (rewrite_of t.change.now) packet (take len octets)
 sealed_at t members taken sent o i place at to octets len packet is there sealed of_place here =

@@ -60,7 +60,8 @@ numbered_push datagrams numbers i number d at there =
 pub record TakenSoFar (before : code.Distributor) (datagrams : List code_datagram.Datagram) (from numbers : List ℕ) (i : ℕ) (now : code.Distributor) : Type 0 where
   pub each : (s : State) → MirrorsDistributor before s → MirrorEach MirrorsDatagram datagrams s.datagrams → AreThere s numbers → TakesMore s [] from (numbered s.datagrams (take i numbers)) now
 
-pub takes_begin : (before now : code.Distributor) (datagrams : List code_datagram.Datagram) (from numbers : List ℕ) → ((s : State) → MirrorsDistributor before s → MirrorsDistributor now s) → MirrorsTakings now []
+pub takes_begin : (before now : code.Distributor) (datagrams : List code_datagram.Datagram) (from numbers : List ℕ)
+    → ((s : State) → MirrorsDistributor before s → MirrorsDistributor now s) → MirrorsTakings now []
     → TakenSoFar before datagrams from numbers 0 now
 takes_begin before now datagrams from numbers stays none = record { each = λ s mirrors all there. record { taken = none; mirrors = stays s mirrors } }
 
@@ -70,13 +71,15 @@ pub record NumberAt (datagrams : List code_datagram.Datagram) (s : State) (numbe
   pub there : datagram_at s.datagrams number ≡ Some datagram
   pub mirrors : MirrorsDatagram g datagram
 
-pub number_within : (datagrams : List code_datagram.Datagram) (s : State) (numbers : List ℕ) (i number : ℕ) → MirrorEach MirrorsDatagram datagrams s.datagrams → AreThere s numbers → slice_get numbers i ≡ Some number
+pub number_within : (datagrams : List code_datagram.Datagram) (s : State) (numbers : List ℕ) (i number : ℕ)
+    → MirrorEach MirrorsDatagram datagrams s.datagrams → AreThere s numbers → slice_get numbers i ≡ Some number
     → (0 < number) × (number - 1 < length datagrams)
 number_within datagrams s numbers i number all there at =
     let d = datagram_there s.datagrams number (all_true_at (λ n. is_some (datagram_at s.datagrams n)) numbers i number there at) in
     (d.above, omega (arith, slice_get_within s.datagrams (number - 1) d.datagram d.at, all.count))
 
-pub number_at : (datagrams : List code_datagram.Datagram) (s : State) (numbers : List ℕ) (i number : ℕ) (g : code_datagram.Datagram) → MirrorEach MirrorsDatagram datagrams s.datagrams → AreThere s numbers → slice_get numbers i ≡ Some number
+pub number_at : (datagrams : List code_datagram.Datagram) (s : State) (numbers : List ℕ) (i number : ℕ) (g : code_datagram.Datagram)
+    → MirrorEach MirrorsDatagram datagrams s.datagrams → AreThere s numbers → slice_get numbers i ≡ Some number
     → g ≡ get_or datagrams (number - 1) g → NumberAt datagrams s number g
 number_at datagrams s numbers i number g all there at is =
     let d = datagram_there s.datagrams number (all_true_at (λ n. is_some (datagram_at s.datagrams n)) numbers i number there at) in
@@ -84,7 +87,8 @@ number_at datagrams s numbers i number g all there at is =
     let here : slice_get datagrams (number - 1) ≡ Some g = slice_get_read datagrams (length datagrams) (number - 1) g refl within is in
     record { datagram = d.datagram; there = d.there; mirrors = all.each (number - 1) g d.datagram here d.at }
 
-pub takes_step : (before mid now : code.Distributor) (datagrams : List code_datagram.Datagram) (from numbers : List ℕ) (i number : ℕ) (g : code_datagram.Datagram) (octets : List ℕ) → TakenSoFar before datagrams from numbers i mid
+pub takes_step : (before mid now : code.Distributor) (datagrams : List code_datagram.Datagram) (from numbers : List ℕ) (i number : ℕ) (g : code_datagram.Datagram) (octets : List ℕ)
+    → TakenSoFar before datagrams from numbers i mid
     → slice_get numbers i ≡ Some number → g ≡ get_or datagrams (number - 1) g → octets ≡ g.octets.items
     → ((s : State) (taken : List Taking) → MirrorsDistributor mid s → MirrorsTakings mid taken → TakesNext s taken from number octets now) → TakenSoFar before datagrams from numbers (i + 1) now
 takes_step before mid now datagrams from numbers i number g octets so_far at is same takes = record {

@@ -34,7 +34,8 @@ use Rattle.perc_forward_line.proofs.Making.{outputs_right}
 
 -- ---- refused
 
-pub does_err : (t : Turn) (result : Result Told Stop) (e f : Stop) (r : Reason) (before after : List ℕ) (c : code.Conference) → result ≡ Err e → e ≡ f → (f ≡ stop.Memory) ⊎ ((f ≡ stop.Refused r) × (t ≡ Refused r))
+pub does_err : (t : Turn) (result : Result Told Stop) (e f : Stop) (r : Reason) (before after : List ℕ) (c : code.Conference)
+    → result ≡ Err e → e ≡ f → (f ≡ stop.Memory) ⊎ ((f ≡ stop.Refused r) × (t ≡ Refused r))
     → Does t result before after c
 does_err t result e f r before after c is same (inl memory) =
     subst (λ (x : Result Told Stop). Does t x before after c) (sym (is ∙ ap (λ (x : Stop). Err x) (same ∙ memory))) (nothing t)
@@ -82,7 +83,8 @@ module _ (s : State) (name numbers : List ℕ) (changes : Changes) (to : Option 
 
 -- ---- why recipients and numbers aren't found
 
-pub names_err : (s : State) (names : Option (List (List ℕ))) (e : Stop) → AreRecipients s names (Err e) → (e ≡ stop.Memory) ⊎ ((e ≡ stop.Refused reason.Name) × (option_map_or (are_present s) names true ≡ false))
+pub names_err : (s : State) (names : Option (List (List ℕ))) (e : Stop) → AreRecipients s names (Err e)
+    → (e ≡ stop.Memory) ⊎ ((e ≡ stop.Refused reason.Name) × (option_map_or (are_present s) names true ≡ false))
 names_err s names stop.Memory h = inl refl
 names_err s names (stop.Refused r) h = inr h
 names_err s names (stop.Foreign n) h = inr h
@@ -95,7 +97,8 @@ numbers_err s list (stop.Foreign n) h = inr h
 -- ---- found
 
 -- a member's association, in the code
-pub from_is : (s : State) (c : code.Conference) (place : ℕ) (m : Member) (x : code_member.Member) → Mirrors c s → slice_get s.members place ≡ Some m → x ≡ get_or c.members.items place x → x.association ≡ m.association
+pub from_is : (s : State) (c : code.Conference) (place : ℕ) (m : Member) (x : code_member.Member) → Mirrors c s
+    → slice_get s.members place ≡ Some m → x ≡ get_or c.members.items place x → x.association ≡ m.association
 from_is s c place m x mirrors at is =
     let within : place < length c.members.items = omega (arith, slice_get_within s.members place m at, mirrors.members.count) in
     (mirrors.members.each place x m (slice_get_read c.members.items (length c.members.items) place x refl within is) at).association
@@ -119,7 +122,8 @@ name_is s name m found = at s.members found
         one false h later f = later f
 
 -- the numbers that the limit is tested with
-pub limit_facts : (s : State) (c : code.Conference) (m : Member) (name : List ℕ) (to recipients : Option (List (List ℕ))) (numbers list : List ℕ) (members : List code_member.Member) (made listed count : ℕ) → Mirrors c s
+pub limit_facts : (s : State) (c : code.Conference) (m : Member) (name : List ℕ) (to recipients : Option (List (List ℕ))) (numbers list : List ℕ) (members : List code_member.Member) (made listed count : ℕ)
+    → Mirrors c s
     → member_named name s ≡ Some m → to ≡ recipients → numbers ≡ list → members ≡ c.members.items → made ≡ length c.datagrams.items → listed ≡ length numbers
     → count ≡ count_by (λ x. x.present && not (bytes_eq name x.name) && is_named_in to x) members
     → made + listed * count ≡ length s.datagrams + length list * count_recipients s m recipients
@@ -146,7 +150,8 @@ pub record Forwards (s : State) (m : Member) (numbers : List ℕ) (change : Rewr
   pub takes : TakesAll s m.association numbers mid
   pub seals : SealsAll (behind_by s m numbers) (taken_by s m numbers) change to end
 
-pub forwards_from : (s : State) (m : Member) (from numbers list : List ℕ) (change : Rewrite) (to recipients : Option (List (List ℕ))) (mid end : code.Conference) → from ≡ m.association → numbers ≡ list → to ≡ recipients
+pub forwards_from : (s : State) (m : Member) (from numbers list : List ℕ) (change : Rewrite) (to recipients : Option (List (List ℕ))) (mid end : code.Conference)
+    → from ≡ m.association → numbers ≡ list → to ≡ recipients
     → TakesAll s from numbers mid → ((t : State) (taken : List Taking) → Mirrors mid t → MirrorsTakings mid.distributor taken → SealsAll t taken change to end) → Forwards s m list change recipients mid end
 forwards_from s m from numbers list change to recipients mid end from_is numbers_are to_is takes seals =
     let t = subst (λ (xs : List ℕ). TakesAll s m.association xs mid) numbers_are (subst (λ (x : List ℕ). TakesAll s x numbers mid) from_is takes) in
@@ -171,7 +176,8 @@ numbered_few datagrams (n ∷ numbers) = one (datagram_at datagrams n) (numbered
 pub taken_few : (s : State) (m : Member) (numbers : List ℕ) → length numbers ≤ 32 → length (taken_by s m numbers) ≤ 32
 taken_few s m numbers few = omega (arith, takings_count s.set s.heard m.association (numbered s.datagrams numbers), numbered_few s.datagrams numbers)
 
-pub has_takings : (s : State) (m : Member) (from numbers list : List ℕ) (mid : code.Conference) → from ≡ m.association → numbers ≡ list → length list ≤ 32 → TakesAll s from numbers mid → HasTakings mid.distributor
+pub has_takings : (s : State) (m : Member) (from numbers list : List ℕ) (mid : code.Conference) → from ≡ m.association → numbers ≡ list
+    → length list ≤ 32 → TakesAll s from numbers mid → HasTakings mid.distributor
 has_takings s m from numbers list mid from_is numbers_are few takes =
     let t = subst (λ (xs : List ℕ). TakesAll s m.association xs mid) numbers_are (subst (λ (x : List ℕ). TakesAll s x numbers mid) from_is takes) in
     record { taken = taken_by s m list; mirrors = t.taken.taken; few = taken_few s m list few }
@@ -183,7 +189,8 @@ step_by s m numbers change to = step_of (behind_by s m numbers) (taken_by s m nu
 abbrev pub sealed_by : State → Member → List ℕ → Rewrite → Option (List (List ℕ)) → State
 sealed_by s m numbers change to = record (behind_by s m numbers) { sealing = (step_by s m numbers change to).1 }
 
-pub is_sealed : (s : State) (m : Member) (numbers : List ℕ) (change : Rewrite) (to : Option (List (List ℕ))) (mid end : code.Conference) → IsOrderly s → IsRewrite change → length numbers ≤ 32 → Forwards s m numbers change to mid end
+pub is_sealed : (s : State) (m : Member) (numbers : List ℕ) (change : Rewrite) (to : Option (List (List ℕ))) (mid end : code.Conference)
+    → IsOrderly s → IsRewrite change → length numbers ≤ 32 → Forwards s m numbers change to mid end
     → IsSealed (sealed_by s m numbers change to) (taken_by s m numbers) change end
 is_sealed s m numbers change to mid end orderly may few h =
     let right = outputs_right s.members s.set mid.distributor.batch.items (taken_by s m numbers) change (option_map (associations_of s) to) s.sealing may orderly.entries orderly.few_members (taken_few s m numbers few) h.takes.taken.taken.batch in

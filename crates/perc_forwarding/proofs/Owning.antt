@@ -32,7 +32,8 @@ to_entry : (s : Sealing) (e : Entry) (change : Rewrite) (packet : Packet) → Al
 to_entry s e change (Media from h inner block field) = of_entry e Srtp h.ssrc (media_place s.streams h inner block field change)
 to_entry s e change (Control from octets) = of_entry e Srtcp (rtcp_ssrc octets) (control_place s.rtcp octets)
 
-each_entry : (P : Entry → Type 0) (es : List Entry) (place : ℕ) (change : Rewrite) (packet : Packet) (sealing : List Sealing) → All P es → All (λ u. P u.entry) (seals_each es place change packet sealing)
+each_entry : (P : Entry → Type 0) (es : List Entry) (place : ℕ) (change : Rewrite) (packet : Packet) (sealing : List Sealing) → All P es
+    → All (λ u. P u.entry) (seals_each es place change packet sealing)
 each_entry P [] place change packet sealing are = All-nil (λ (u : Seal). P u.entry)
 each_entry P (e ∷ es) place change packet sealing are =
     let s = sealing_of sealing e.serial in
@@ -63,7 +64,8 @@ own_recipients number of history set only packet added =
       added = theirs k d within;
     }
 
-from_own : (number of : ℕ) (history : List Op) (set : List Entry) (place : ℕ) (batch : List Packet) (change : Rewrite) (only : Option (List (List ℕ))) (sealing : List Sealing) → All (Contains (adds history)) set
+from_own : (number of : ℕ) (history : List Op) (set : List Entry) (place : ℕ) (batch : List Packet) (change : Rewrite) (only : Option (List (List ℕ))) (sealing : List Sealing)
+    → All (Contains (adds history)) set
     → All (λ u. IsOwn number of history u.entry) (seals_from number of set place batch change only sealing)
 from_own number of history set place [] change only sealing added = All-nil (λ (u : Seal). IsOwn number of history u.entry)
 from_own number of history set place (packet ∷ batch) change only sealing added =

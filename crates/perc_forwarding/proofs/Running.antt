@@ -89,7 +89,8 @@ knows_new ops sealing after e u member its one = record {
       subst (λ (s : Sealing). IsRecorded u.kind s u.ssrc u.index) (sym (kept_with sealing after u.entry.serial (ap (λ (x : Entry). x.serial) one.entry ∙ sym its))) one.kept;
 }
 
-run_by : (ops : List Op) (sealing : List Sealing) (after : Sealing) (e : Entry) (before new : List Seal) → Contains (fold_ops ops) e → after.serial ≡ e.serial → KeepsAll (sealing_of sealing e.serial) after
+run_by : (ops : List Op) (sealing : List Sealing) (after : Sealing) (e : Entry) (before new : List Seal) → Contains (fold_ops ops) e
+    → after.serial ≡ e.serial → KeepsAll (sealing_of sealing e.serial) after
     → AreOne (sealing_of sealing e.serial) after e new → Run ops sealing before → Run ops (with_sealing after sealing) (before ++ new)
 run_by ops sealing after e before [] member its keeps are r =
     subst (Run ops (with_sealing after sealing)) (sym (append-nil before)) (record {
@@ -123,7 +124,8 @@ run_each ops (e ∷ es) place change packet sealing before members sound r =
     let rest = run_each ops es place change packet (with_sealing after sealing) (before ++ new) (All-tail (Contains (fold_ops ops)) e es members) sound one in
     subst (Run ops (sent_each es place change packet (with_sealing after sealing)).1) (append_assoc before new (seals_each es place change packet (with_sealing after sealing))) rest
 
-run_from : (ops : List Op) (number of place : ℕ) (batch : List Packet) (change : Rewrite) (only : Option (List (List ℕ))) (sealing : List Sealing) (before : List Seal) → All IsSound batch → Run ops sealing before
+run_from : (ops : List Op) (number of place : ℕ) (batch : List Packet) (change : Rewrite) (only : Option (List (List ℕ))) (sealing : List Sealing) (before : List Seal)
+    → All IsSound batch → Run ops sealing before
     → Run ops (sent_from number of (fold_ops ops) place batch change only sealing).1 (before ++ seals_from number of (fold_ops ops) place batch change only sealing)
 run_from ops number of place [] change only sealing before sound r = subst (Run ops sealing) (sym (append-nil before)) r
 run_from ops number of place (packet ∷ batch) change only sealing before sound r =
@@ -152,7 +154,8 @@ run_in ops sealing before r = record {
   apart = r.apart;
 }
 
-run_step : (ops : List Op) (number of : ℕ) (batch : List Packet) (change : Rewrite) (only : Option (List (List ℕ))) (sealing : List Sealing) (before : List Seal) → All IsSound batch → Run ops sealing before
+run_step : (ops : List Op) (number of : ℕ) (batch : List Packet) (change : Rewrite) (only : Option (List (List ℕ))) (sealing : List Sealing) (before : List Seal)
+    → All IsSound batch → Run ops sealing before
     → Run ops (media_step number of (fold_ops ops) batch change only sealing).1 (before ++ step_seals number of (fold_ops ops) batch change only sealing)
 unfolding media_step step_seals
 run_step ops number of [] change only sealing before sound r = subst (Run ops sealing) (sym (append-nil before)) r

@@ -105,7 +105,8 @@ blocks_one octets some short =
     ∙ ap (λ (xs : List ℕ). element xs ∷ []) (take_all 16 octets short)
 
 -- one block is hashed
-pub running_first : (h y z x : ℕ) (octets block behind : List ℕ) → 16 ≤ length octets → block ≡ take 16 octets → behind ≡ drop 16 octets → x ≡ element block → z ≡ product (bit_xor y x) h → running h z (blocks behind) ≡ running h y (blocks octets)
+pub running_first : (h y z x : ℕ) (octets block behind : List ℕ) → 16 ≤ length octets → block ≡ take 16 octets → behind ≡ drop 16 octets
+    → x ≡ element block → z ≡ product (bit_xor y x) h → running h z (blocks behind) ≡ running h y (blocks octets)
 unfolding running
 running_first h y z x octets block behind long block_is behind_is x_is z_is =
     ap (λ (xs : List ℕ). running h z (blocks xs)) behind_is
@@ -205,7 +206,9 @@ lengths_joined aad cipher p q =
     ap (λ (x : ℕ). bit_or x (8 * length cipher)) fits ∙ or_shifted (8 * length aad) 64 (8 * length cipher) (omega arith)
 
 -- what the body hashes gives the hash
-pub hash_is : (h : ℕ) (aad cipher : List ℕ) → h < 2 ^ 128 → length aad ≤ 65536 → length cipher ≤ 65536 → ((j : ℕ) → get_or aad j 0 < 256) → ((j : ℕ) → get_or cipher j 0 < 256) → product (add (running h (running h 0 (blocks aad)) (blocks cipher)) (lengths aad cipher)) h ≡ ghash h (hashed aad cipher)
+pub hash_is : (h : ℕ) (aad cipher : List ℕ) → h < 2 ^ 128 → length aad ≤ 65536 → length cipher ≤ 65536 → ((j : ℕ) → get_or aad j 0 < 256)
+    → ((j : ℕ) → get_or cipher j 0 < 256)
+    → product (add (running h (running h 0 (blocks aad)) (blocks cipher)) (lengths aad cipher)) h ≡ ghash h (hashed aad cipher)
 unfolding hashed
 hash_is h aad cipher fits p q all_aad all_cipher =
     running_last h (running h (running h 0 (blocks aad)) (blocks cipher)) (lengths aad cipher)
@@ -217,7 +220,10 @@ hash_is h aad cipher fits p q all_aad all_cipher =
     (elements_one (lengths aad cipher) (lengths_is_element aad cipher p q)))
 
 -- the hash by the steps of the body
-pub hash_made : (h a t g : ℕ) (aad cipher : List ℕ) → h < 2 ^ 128 → length aad ≤ 65536 → length cipher ≤ 65536 → ((j : ℕ) → get_or aad j 0 < 256) → ((j : ℕ) → get_or cipher j 0 < 256) → a ≡ running h 0 (blocks aad) → t ≡ running h a (blocks cipher) → g ≡ product (add t (bit_or (8 * length aad * 2 ^ 64 % 2 ^ 128) (8 * length cipher))) h → g ≡ ghash h (hashed aad cipher)
+pub hash_made : (h a t g : ℕ) (aad cipher : List ℕ) → h < 2 ^ 128 → length aad ≤ 65536 → length cipher ≤ 65536
+    → ((j : ℕ) → get_or aad j 0 < 256) → ((j : ℕ) → get_or cipher j 0 < 256) → a ≡ running h 0 (blocks aad)
+    → t ≡ running h a (blocks cipher) → g ≡ product (add t (bit_or (8 * length aad * 2 ^ 64 % 2 ^ 128) (8 * length cipher))) h
+    → g ≡ ghash h (hashed aad cipher)
 hash_made h a t g aad cipher fits p q all_aad all_cipher a_is t_is g_is =
     g_is
     ∙ ap (λ (x : ℕ). product (add t x) h) (lengths_joined aad cipher p q)

@@ -15,7 +15,8 @@ use Rattle.perc_gcm.specs.Running.{running}
 add_over : (a b c : ℕ) → add (add a b) c ≡ add (add a c) b
 add_over a b c = xor_assoc a b c ∙ ap (λ (x : ℕ). add a x) (xor_comm b c) ∙ sym (xor_assoc a c b)
 
-times_x_by_bit : (u v a b : ℕ) → u < 2 → v < 2 → (if nat_eq (bit_xor u v) 1 then add (add a b) reduction else add a b) ≡ add (if nat_eq u 1 then add a reduction else a) (if nat_eq v 1 then add b reduction else b)
+times_x_by_bit : (u v a b : ℕ) → u < 2 → v < 2
+    → (if nat_eq (bit_xor u v) 1 then add (add a b) reduction else add a b) ≡ add (if nat_eq u 1 then add a reduction else a) (if nat_eq v 1 then add b reduction else b)
 times_x_by_bit zero zero a b _ _ = refl
 times_x_by_bit zero (suc zero) a b _ _ = xor_assoc a b reduction
 times_x_by_bit (suc zero) zero a b _ _ = add_over a b reduction

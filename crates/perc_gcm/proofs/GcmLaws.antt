@@ -1,5 +1,6 @@
 -- Laws of the mode: the lengths and octets of what it makes, and that a text can be had back.
-use Rattle.std.proofs.Common.{◌≡◌, ◌↔◌, ℕ, zero, suc, ◌+◌, ◌-◌, ◌/◌, ◌%◌, ◌^◌, ◌<◌, ◌≤◌, nat_le, Bool, true, false, IsTrue, if◌then◌else◌, ◌&&◌, Option, None, Some, List, [], ◌∷◌, ◌++◌, length, take, drop, replicate, get_or, bit_xor, ⊎_elim, refl, sym, ◌∙◌, ap, arith}
+use Rattle.std.proofs.Common.{◌≡◌, ◌↔◌, ℕ, zero, suc, ◌+◌, ◌-◌, ◌/◌, ◌%◌, ◌^◌, ◌<◌, ◌≤◌, nat_le, Bool, true, false, IsTrue, if◌then◌else◌, ◌&&◌, Option}
+use Rattle.std.proofs.Common.{None, Some, List, [], ◌∷◌, ◌++◌, length, take, drop, replicate, get_or, bit_xor, ⊎_elim, refl, sym, ◌∙◌, ap, arith}
 use Rattle.std.specs.Int.{w32, w128, from_be_bytes, to_be_bytes}
 use Rattle.std.specs.Int.Bits.{xor_self, xor_zero_l, xor_zero_r, xor_assoc}
 use Rattle.std.proofs.lemmas.Bool.{cases_lt, le-leb}
@@ -140,7 +141,8 @@ length-sealed_text key iv aad text =
     omega (arith, length-append (ciphertext key iv text) (tag key iv aad (ciphertext key iv text)), length-ciphertext key iv text, length-tag key iv aad (ciphertext key iv text))
 
 -- and octets.
-pub sealed_octets : (key iv aad text : List ℕ) → IsKey key → length iv ≡ 12 → ((k : ℕ) → get_or iv k 0 < 256) → ((k : ℕ) → get_or text k 0 < 256) → (k : ℕ) → get_or (sealed_text key iv aad text) k 0 < 256
+pub sealed_octets : (key iv aad text : List ℕ) → IsKey key → length iv ≡ 12 → ((k : ℕ) → get_or iv k 0 < 256)
+    → ((k : ℕ) → get_or text k 0 < 256) → (k : ℕ) → get_or (sealed_text key iv aad text) k 0 < 256
 unfolding sealed_text
 sealed_octets key iv aad text is size iv_octets octets =
     below_append 256 (ciphertext key iv text) (tag key iv aad (ciphertext key iv text))
@@ -250,7 +252,8 @@ masks_same g a b same p q =
     omega arith
 
 -- A tag over additional data and a cipher text comes from one IV.
-pub iv_is_one : (key iv other aad cipher : List ℕ) → IsKey key → length iv ≡ 12 → length other ≡ 12 → ((k : ℕ) → get_or iv k 0 < 256) → ((k : ℕ) → get_or other k 0 < 256) → tag key iv aad cipher ≡ tag key other aad cipher → iv ≡ other
+pub iv_is_one : (key iv other aad cipher : List ℕ) → IsKey key → length iv ≡ 12 → length other ≡ 12 → ((k : ℕ) → get_or iv k 0 < 256)
+    → ((k : ℕ) → get_or other k 0 < 256) → tag key iv aad cipher ≡ tag key other aad cipher → iv ≡ other
 unfolding tag counter_block
 iv_is_one key iv other aad cipher is size_iv size_other octets_iv octets_other same =
     let first_iv = IsBlock-counter_block iv 0 size_iv octets_iv in

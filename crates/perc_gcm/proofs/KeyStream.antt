@@ -86,7 +86,10 @@ length-part xs ys a n fits e =
     omega (arith, length-append (take a xs) (ys ++ drop n (drop a xs)), length-append ys (drop n (drop a xs)), length-take a xs, length-drop n (drop a xs), length-drop a xs)
 
 -- one block more
-pub streamed_more : (key iv old text mask new : List ℕ) (i n : ℕ) → Streamed key iv old text i → 16 * i < length old → n ≡ min (length text) (16 * i + 16) - 16 * i → mask ≡ aes key (counter_block iv (i + 1)) → length new ≡ n → ((k : ℕ) → k < n → get_or new k 0 ≡ bit_xor (get_or (take n (drop (16 * i) text)) k 0) (get_or mask k 0)) → Streamed key iv old (put_mid (16 * i) n text new) (i + 1)
+pub streamed_more : (key iv old text mask new : List ℕ) (i n : ℕ) → Streamed key iv old text i → 16 * i < length old
+    → n ≡ min (length text) (16 * i + 16) - 16 * i → mask ≡ aes key (counter_block iv (i + 1)) → length new ≡ n
+    → ((k : ℕ) → k < n → get_or new k 0 ≡ bit_xor (get_or (take n (drop (16 * i) text)) k 0) (get_or mask k 0))
+    → Streamed key iv old (put_mid (16 * i) n text new) (i + 1)
 streamed_more key iv old text mask new i n so_far some n_is mask_is size each =
     let size_text = so_far.size in
     record {

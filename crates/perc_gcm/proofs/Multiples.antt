@@ -91,7 +91,8 @@ high_at h (suc (suc (suc zero))) fits inside =
 high_at h (suc (suc (suc (suc u)))) fits inside = absurd (omega arith)
 
 -- and by the low two
-low_at : (h u : ℕ) → h < 2 ^ 128 → u < 4 → get_or (0 ∷ times_x (times_x (times_x h)) ∷ times_x (times_x h) ∷ bit_xor (times_x (times_x h)) (times_x (times_x (times_x h))) ∷ []) u 0 ≡ product (u * 2 ^ 124) h
+low_at : (h u : ℕ) → h < 2 ^ 128 → u < 4
+    → get_or (0 ∷ times_x (times_x (times_x h)) ∷ times_x (times_x h) ∷ bit_xor (times_x (times_x h)) (times_x (times_x (times_x h))) ∷ []) u 0 ≡ product (u * 2 ^ 124) h
 unfolding shifted
 low_at h zero fits inside = sym (product_zero h)
 low_at h (suc zero) fits inside = sym (power_of_x_times h 3 fits (omega arith))
@@ -224,7 +225,8 @@ stepped_first w h v =
       done = product_none h v ∙ ap (λ (n : ℕ). product (low_part v n) h) none;
     }
 
-pub stepped_more : (w h v rest sum next entry i : ℕ) → w * i + w ≤ 128 → Stepped w h v rest sum i → next ≡ shifted sum w → entry ≡ product (rest % 2 ^ w * 2 ^ (128 - w)) h → Stepped w h v (rest / 2 ^ w) (bit_xor next entry) (i + 1)
+pub stepped_more : (w h v rest sum next entry i : ℕ) → w * i + w ≤ 128 → Stepped w h v rest sum i → next ≡ shifted sum w
+    → entry ≡ product (rest % 2 ^ w * 2 ^ (128 - w)) h → Stepped w h v (rest / 2 ^ w) (bit_xor next entry) (i + 1)
 stepped_more w h v rest sum shifted_sum entry i inside so_far sum_is entry_value =
     let next : suc i ≡ i + 1 = omega arith in
     let more : w * i + w ≡ w * (i + 1) = sym (mul-suc w i) ∙ ap (λ (n : ℕ). w * n) next in

@@ -145,7 +145,8 @@ place_at who p may streams pt marker timestamp payload change plain shift first 
     ∙ ap (λ (k : ℕ). tx_index (shifted out.sealed) ((out.sending.next % 65536 + k) % 65536)) shift.seven ∙ shifted_free out may.sender.is first (omega arith)
     )
 
-pub takes_in : (sealing : List Sealing) (t ssrc : ℕ) (sealed : List ℕ) → in_set entries t ≡ true → Takes (sealing_of sealing t).streams ssrc sealed → Takes (sealing_of (in_entries sealing) t).streams ssrc sealed
+pub takes_in : (sealing : List Sealing) (t ssrc : ℕ) (sealed : List ℕ) → in_set entries t ≡ true
+    → Takes (sealing_of sealing t).streams ssrc sealed → Takes (sealing_of (in_entries sealing) t).streams ssrc sealed
 takes_in sealing t ssrc sealed there is =
     subst (λ (s : Sealing). Takes s.streams ssrc sealed) (sym (sealing_in_entries sealing t there)) is
 

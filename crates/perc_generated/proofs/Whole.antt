@@ -64,7 +64,8 @@ two_more Cat p c = let count = length_push p.datagrams (sent_by (member_of Cat p
 own_hears : (who : Who) (p : Parts) (may : MaySend who p) → IsReady who p → Hears p.heard (own_entry who).serial (out_of who p).sending.ssrc (out_of who p).sealed
 own_hears who p may ready = subst (λ (s : ℕ). Hears p.heard (own_entry who).serial s (out_of who p).sealed) (sym may.ssrc) ready.hears
 
-forwarded_is : (who : Who) (p : Parts) (may : MaySend who p) (ready : IsReady who p) (pt : ℕ) (marker : Bool) (timestamp : ℕ) (payload : List ℕ) (changes : Changes) (n : ℕ) → IsPlain pt timestamp payload
+forwarded_is : (who : Who) (p : Parts) (may : MaySend who p) (ready : IsReady who p) (pt : ℕ) (marker : Bool) (timestamp : ℕ) (payload : List ℕ) (changes : Changes) (n : ℕ)
+    → IsPlain pt timestamp payload
     → IsShift (rewrite_by changes) → n ≡ length p.datagrams + 1
     → IsForwarded who (sent_parts who p (content_at pt marker timestamp payload)) n (rewrite_by changes) (view_more who (view_of p) (out_of who p).sending.ssrc (outer_index (out_of who p)))
 forwarded_is Ann p may ready pt marker timestamp payload changes n plain shift number =
@@ -125,7 +126,8 @@ forwarded_is Cat p may ready pt marker timestamp payload changes n plain shift n
       view_is = ap (λ (k : ℕ). record (view_more Cat (view_of p) out.sending.ssrc (outer_index out)) { made = k }) (two_more Cat p c);
     }
 
-send_forward : (who : Who) (p : Parts) (made n pt : ℕ) (marker : Bool) (timestamp : ℕ) (payload : List ℕ) (changes : Changes) → IsOrderly (state_of p) → IsBetween made (view_of p) → made + 3 ≤ most_datagrams
+send_forward : (who : Who) (p : Parts) (made n pt : ℕ) (marker : Bool) (timestamp : ℕ) (payload : List ℕ) (changes : Changes)
+    → IsOrderly (state_of p) → IsBetween made (view_of p) → made + 3 ≤ most_datagrams
     → IsPlain pt timestamp payload → IsShift (rewrite_by changes) → n ≡ made + 1
     → Behind (turn by_cipher (state_of p) (Send (name_of who) pt marker timestamp payload no_options))
     (λ next. Behind (turn by_cipher next (Forward (name_of who) (n ∷ []) changes None)) (Has (IsBetween (made + 3))))

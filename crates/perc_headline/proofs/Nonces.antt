@@ -57,8 +57,10 @@ use Rattle.perc_headline.proofs.Sends.{IsMedia, said_media}
 use Rattle.perc_headline.proofs.Facts.{Facts}
 use Rattle.perc_headline.proofs.Lines.{Newcomer, all_others, join_line}
 use Rattle.perc_headline.proofs.Sealing.{IsServed, PacketFits, rtcp_index, step_served}
-use Rattle.perc_headline.proofs.Fitting.{Fits, HasMasters, TakingFits, UnsealedFits, altered_octets, batch_fits, control_fits, found_fits, grafted_octets, made_fits, numbered_fit, opened_fit, pair_master, resealed_fits, sent_fits, step_out, takings_fit, words_change}
-use Rattle.perc_headline.proofs.Clear.{AreApart, AreOtherPairs, HasOrigin, IsAhead, IsClear, IsEntryOf, IsKept, IsSealer, IsSending as IsSender, KeepsSending, Pair, Wire, clear_change, clear_less, clear_sent, clients_differ, goes_same, pair_of, pairs_kept, pairs_of, sent_pair, sides, wire_of}
+use Rattle.perc_headline.proofs.Fitting.{Fits, HasMasters, TakingFits, UnsealedFits, altered_octets, batch_fits, control_fits, found_fits, grafted_octets}
+use Rattle.perc_headline.proofs.Fitting.{made_fits, numbered_fit, opened_fit, pair_master, resealed_fits, sent_fits, step_out, takings_fit, words_change}
+use Rattle.perc_headline.proofs.Clear.{AreApart, AreOtherPairs, HasOrigin, IsAhead, IsClear, IsEntryOf, IsKept, IsSealer, IsSending as IsSender, KeepsSending, Pair}
+use Rattle.perc_headline.proofs.Clear.{Wire, clear_change, clear_less, clear_sent, clients_differ, goes_same, pair_of, pairs_kept, pairs_of, sent_pair, sides, wire_of}
 use Rattle.perc_headline.proofs.Joined.{IsNewcomer, clear_joined, joined_wire}
 use Rattle.perc_headline.proofs.Forwarded.{clear_datagrams, clear_step, with_kept}
 
@@ -672,7 +674,8 @@ deliver_clear s number name done clear =
 
 -- ---- any line
 
-form_clear : (turns : Turns) (s : State) (profile : Profile) (line : Script) (done : List Seal) → IsScript line → Facts turns (core_of s) → NeverTwice (wire_of s) done → NeverTwice (wire_of s) (done ++ [])
+form_clear : (turns : Turns) (s : State) (profile : Profile) (line : Script) (done : List Seal) → IsScript line → Facts turns (core_of s)
+    → NeverTwice (wire_of s) done → NeverTwice (wire_of s) (done ++ [])
     → ClearBehind (done ++ line_seals s line) (form_turn by_cipher s profile line)
 form_clear turns s profile script.Nothing done said f clear same = same
 form_clear turns s profile (script.Conference other) done said f clear same = tt

@@ -109,7 +109,8 @@ half-length n half key_size salt_size = length-append half.key half.salt ∙ sum
   sum : (a b n : ℕ) → a ≡ n → b ≡ 12 → a + b ≡ n + 12
   sum a b n e f = omega arith
 
-welcome-length : (p : Profile) (client server : KeyAndSalt) (granted : EktKeyRecord) (a b c : ℕ) → length (half_octets client) ≡ a → length (half_octets server) ≡ b → length (record_octets granted) ≡ c
+welcome-length : (p : Profile) (client server : KeyAndSalt) (granted : EktKeyRecord) (a b c : ℕ) → length (half_octets client) ≡ a
+    → length (half_octets server) ≡ b → length (record_octets granted) ≡ c
     → length (clear.spelling p (Welcome client server granted)) ≡ 8 + ((a + b) + c)
 unfolding clear.spelling
 welcome-length p client server granted a b c e f g =

@@ -18,7 +18,8 @@ use Rattle.perc_keydist.specs.declared.handshake.Hello as declared
 use Rattle.perc_keydist.specs.declared.handshake.Hello.TheVariants.{Join}
 use Rattle.perc_keydist.specs.Answers.{brought, clear_answers}
 use Rattle.perc_keydist.specs.ClearRecord.{Hello, record_in, spelling}
-use Rattle.perc_keydist.specs.Distributing.{Part, Replying, State, Turn, admitting, behind_keys, behind_pair, drawn_keys, drawn_pair, drawn_record, ended, grant, granting, hear, issue, issuing, join, join_of, joining, next_spi, quiet, record_heard, repeats, silent, turn_of, welcomed, welcoming}
+use Rattle.perc_keydist.specs.Distributing.{Part, Replying, State, Turn, admitting, behind_keys, behind_pair, drawn_keys, drawn_pair, drawn_record, ended, grant, granting}
+use Rattle.perc_keydist.specs.Distributing.{hear, issue, issuing, join, join_of, joining, next_spi, quiet, record_heard, repeats, silent, turn_of, welcomed, welcoming}
 use Rattle.perc_keydist.specs.KeyDistributor.{KeyDistributor, anew, state_of}
 use Rattle.perc_keydist.proofs.RecordLaws.{clear_reads}
 use Rattle.perc_keydist.proofs.Joining.{has_room}

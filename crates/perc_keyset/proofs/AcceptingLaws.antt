@@ -79,7 +79,8 @@ All-not_given client server (e ∷ es) none =
     (All-not_given client server es (All-tail (λ d. gave client server d ≡ false) e es none)))
 
 -- An accepted add keeps a history one.
-pub IsHistory-add : (ops : List Op) (association : List ℕ) (client server : KeyAndSalt) → IsHistory ops → IsAccepted ops client server → IsHistory (ops ++ Add (new_entry ops association client server) ∷ [])
+pub IsHistory-add : (ops : List Op) (association : List ℕ) (client server : KeyAndSalt) → IsHistory ops → IsAccepted ops client server
+    → IsHistory (ops ++ Add (new_entry ops association client server) ∷ [])
 IsHistory-add ops association client server history new =
     let e : Entry = new_entry ops association client server in
     let given : List KeyAndSalt = pairs_of (adds ops) in
@@ -102,7 +103,8 @@ pub IsHistory-remove : (ops : List Op) (association : List ℕ) → IsHistory op
 IsHistory-remove ops association history =
     history_along ops (ops ++ Remove association ∷ []) (adds-append ops (Remove association ∷ []) ∙ append-nil (adds ops)) history
 
-by_answer : (ops : List Op) (association : List ℕ) (client server : KeyAndSalt) (answer : Result Added AddFault) → add_answer ops association client server ≡ answer → IsHistory ops → IsHistory (after_add ops association client server answer)
+by_answer : (ops : List Op) (association : List ℕ) (client server : KeyAndSalt) (answer : Result Added AddFault)
+    → add_answer ops association client server ≡ answer → IsHistory ops → IsHistory (after_add ops association client server answer)
 by_answer ops association client server (Ok New) is history =
     IsHistory-add ops association client server history (IsAccepted-from_answer ops association client server is)
 by_answer ops association client server (Ok Same) is history = history

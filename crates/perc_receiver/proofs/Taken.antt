@@ -17,7 +17,8 @@ use Rattle.perc_receiver.specs.declared.refusal.Refusal.{Refusal}
 use Rattle.perc_receiver.specs.declared.refusal.Refusal.TheVariants as refusal
 use Rattle.perc_receiver.specs.Table.{IsRight, IsRightRow, Row, Secret, Table, body_of}
 use Rattle.perc_receiver.specs.Opener.{Opener, by_table, is_row, row_of}
-use Rattle.perc_receiver.specs.Receiver.{Accepted, OpenTry, Receiver, carried_by, decided, heard, heard_reach, ideal, is_fresh, judged, judged_carried, judged_open, judged_tries, live_of, openings, reach_of, some_tries, stale, without_padding}
+use Rattle.perc_receiver.specs.Receiver.{Accepted, OpenTry, Receiver, carried_by, decided, heard, heard_reach, ideal, is_fresh, judged}
+use Rattle.perc_receiver.specs.Receiver.{judged_carried, judged_open, judged_tries, live_of, openings, reach_of, some_tries, stale, without_padding}
 use Rattle.perc_receiver.specs.Calls.{IsRow, IsSent}
 use Rattle.perc_receiver.proofs.Headers.{IsRowOf, is_row-parts}
 use Rattle.perc_receiver.proofs.Tried.{IsLiveKey, IsTriedUnder, one_tried}

@@ -66,7 +66,8 @@ refusal-other word rest reason h =
     let is = refusal-plain found.0 back.1 in
     ended found.0 reason (λ ws y. RefusalIs (word ∷ ws) y) rest found.2 (ap (λ w. w ∷ []) back.0 ∙ is.0, is.1)
 
-refusal-spi-unknown : (word : List ℕ) (rest : List (List ℕ)) (reason : Refusal) → bytes_eq word (codes "spi-unknown") ≡ true → word_then (number_in most_of_two) (λ number. ends (refusal.SpiUnknown number)) rest ≡ Some reason → RefusalIs (word ∷ rest) reason
+refusal-spi-unknown : (word : List ℕ) (rest : List (List ℕ)) (reason : Refusal) → bytes_eq word (codes "spi-unknown") ≡ true
+    → word_then (number_in most_of_two) (λ number. ends (refusal.SpiUnknown number)) rest ≡ Some reason → RefusalIs (word ∷ rest) reason
 refusal-spi-unknown word rest reason is h =
     subst (λ w. RefusalIs (w ∷ rest) reason) (sym (same word (codes "spi-unknown") is))
     (taken _ _ _ two_kind _ reason (λ ws. RefusalIs (codes "spi-unknown" ∷ ws) reason) rest h λ number w1 f1 h1.
@@ -172,7 +173,8 @@ denial-other word rest reason h =
     let is = denial-plain found.0 back.1 in
     ended found.0 reason (λ ws y. DenialIs (word ∷ ws) y) rest found.2 (ap (λ w. w ∷ []) back.0 ∙ is.0, is.1)
 
-denial-spi-old : (word : List ℕ) (rest : List (List ℕ)) (reason : Denial) → bytes_eq word (codes "spi-old") ≡ true → word_then (number_in most_of_two) (λ number. ends (denial.SpiOld number)) rest ≡ Some reason → DenialIs (word ∷ rest) reason
+denial-spi-old : (word : List ℕ) (rest : List (List ℕ)) (reason : Denial) → bytes_eq word (codes "spi-old") ≡ true
+    → word_then (number_in most_of_two) (λ number. ends (denial.SpiOld number)) rest ≡ Some reason → DenialIs (word ∷ rest) reason
 denial-spi-old word rest reason is h =
     subst (λ w. DenialIs (w ∷ rest) reason) (sym (same word (codes "spi-old") is))
     (taken _ _ _ two_kind _ reason (λ ws. DenialIs (codes "spi-old" ∷ ws) reason) rest h λ number w1 f1 h1.
@@ -218,13 +220,15 @@ loss-other word rest reason h =
     let is = loss-plain found.0 back.1 in
     ended found.0 reason (λ ws y. LossIs (word ∷ ws) y) rest found.2 (ap (λ w. w ∷ []) back.0 ∙ is.0, is.1)
 
-loss-no-index : (word : List ℕ) (rest : List (List ℕ)) (reason : Loss) → bytes_eq word (codes "no-index") ≡ true → word_then (number_in most_of_two) (λ number. ends (loss.NoIndex number)) rest ≡ Some reason → LossIs (word ∷ rest) reason
+loss-no-index : (word : List ℕ) (rest : List (List ℕ)) (reason : Loss) → bytes_eq word (codes "no-index") ≡ true
+    → word_then (number_in most_of_two) (λ number. ends (loss.NoIndex number)) rest ≡ Some reason → LossIs (word ∷ rest) reason
 loss-no-index word rest reason is h =
     subst (λ w. LossIs (w ∷ rest) reason) (sym (same word (codes "no-index") is))
     (taken _ _ _ two_kind _ reason (λ ws. LossIs (codes "no-index" ∷ ws) reason) rest h λ number w1 f1 h1.
     ended _ reason (λ ws y. LossIs (codes "no-index" ∷ decimal number ∷ ws) y) w1 h1 (refl, f1))
 
-loss-nonce-used : (word : List ℕ) (rest : List (List ℕ)) (reason : Loss) → bytes_eq word (codes "nonce-used") ≡ true → word_then (number_in most_of_six) (λ number. ends (loss.NonceUsed number)) rest ≡ Some reason → LossIs (word ∷ rest) reason
+loss-nonce-used : (word : List ℕ) (rest : List (List ℕ)) (reason : Loss) → bytes_eq word (codes "nonce-used") ≡ true
+    → word_then (number_in most_of_six) (λ number. ends (loss.NonceUsed number)) rest ≡ Some reason → LossIs (word ∷ rest) reason
 loss-nonce-used word rest reason is h =
     subst (λ w. LossIs (w ∷ rest) reason) (sym (same word (codes "nonce-used") is))
     (taken _ _ _ six_kind _ reason (λ ws. LossIs (codes "nonce-used" ∷ ws) reason) rest h λ number w1 f1 h1.

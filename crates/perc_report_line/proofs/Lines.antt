@@ -230,11 +230,13 @@ reseal_told datagram name octets f g = again_taken _ _ _ name_spelling _ name _ 
 down_told : (datagram : ℕ) (name octets : List ℕ) → IsName name → AreSomeOctets octets → wired datagram way.Down (name ∷ encode_lower octets ∷ []) ≡ Some (report.WireDown datagram name octets)
 down_told datagram name octets f g = again_taken _ _ _ name_spelling _ name _ f ∙ again_taken _ _ _ octets_spelling _ octets _ g
 
-drop_told : (datagram : ℕ) (name : List ℕ) (reason : Loss) → IsReport (report.Dropped datagram name reason) → report.drop_in (decimal datagram ∷ name ∷ loss_words reason) ≡ Some (report.Dropped datagram name reason)
+drop_told : (datagram : ℕ) (name : List ℕ) (reason : Loss) → IsReport (report.Dropped datagram name reason)
+    → report.drop_in (decimal datagram ∷ name ∷ loss_words reason) ≡ Some (report.Dropped datagram name reason)
 unfolding report.drop_in
 drop_told datagram name reason f = again_taken _ _ _ four_kind _ datagram _ f.0 ∙ again_taken _ _ _ name_spelling _ name _ f.1 ∙ rw (loss_again reason f.2) refl
 
-media_told : (datagram : ℕ) (reason : Refusal) → IsReport (report.RefuseMedia datagram reason) → report.refuse_in (decimal datagram ∷ codes "media" ∷ refusal_words reason) ≡ Some (report.RefuseMedia datagram reason)
+media_told : (datagram : ℕ) (reason : Refusal) → IsReport (report.RefuseMedia datagram reason)
+    → report.refuse_in (decimal datagram ∷ codes "media" ∷ refusal_words reason) ≡ Some (report.RefuseMedia datagram reason)
 unfolding report.refuse_in
 media_told datagram reason f = again_taken _ _ _ four_kind _ datagram _ f.0 ∙ rw (refusal_again reason f.1) refl
 
@@ -242,7 +244,8 @@ media_told datagram reason f = again_taken _ _ _ four_kind _ datagram _ f.0 ∙ 
 no_media : (name : List ℕ) → IsName name → bytes_eq name (codes "media") ≡ false
 no_media name h = false_from_ne_true _ (λ t. both_ways (is_name (codes "media")) refl (sym (ap is_name (same name (codes "media") t)) ∙ h))
 
-refuse_told : (datagram : ℕ) (name : List ℕ) (reason : Refusal) → IsReport (report.Refuse datagram name reason) → report.refuse_in (decimal datagram ∷ name ∷ refusal_words reason) ≡ Some (report.Refuse datagram name reason)
+refuse_told : (datagram : ℕ) (name : List ℕ) (reason : Refusal) → IsReport (report.Refuse datagram name reason)
+    → report.refuse_in (decimal datagram ∷ name ∷ refusal_words reason) ≡ Some (report.Refuse datagram name reason)
 unfolding report.refuse_in
 refuse_told datagram name reason f = again_taken _ _ _ four_kind _ datagram _ f.0 ∙ rw (no_media name f.1, f.1, refusal_again reason f.2) refl
 
@@ -254,7 +257,8 @@ accept_told a f =
     ∙ again_taken _ _ _ four_kind _ a.sent _ f.sent ∙ again_taken _ _ _ payload_type_kind _ a.pt _ f.pt ∙ again_taken _ _ _ two_kind _ a.seq _ f.seq
     ∙ again_taken _ _ _ marker_spelling _ a.marker _ tt ∙ again_taken _ _ _ four_kind _ a.timestamp _ f.timestamp ∙ again_taken _ _ _ payload_spelling _ a.payload _ f.payload
 
-rtcp_told : (datagram : ℕ) (name octets : List ℕ) → IsReport (report.Rtcp datagram name octets) → report.rtcp_in (decimal datagram ∷ name ∷ encode_lower octets ∷ []) ≡ Some (report.Rtcp datagram name octets)
+rtcp_told : (datagram : ℕ) (name octets : List ℕ) → IsReport (report.Rtcp datagram name octets)
+    → report.rtcp_in (decimal datagram ∷ name ∷ encode_lower octets ∷ []) ≡ Some (report.Rtcp datagram name octets)
 unfolding report.rtcp_in
 rtcp_told datagram name octets f = again_taken _ _ _ four_kind _ datagram _ f.0 ∙ again_taken _ _ _ name_spelling _ name _ f.1 ∙ again_taken _ _ _ octets_spelling _ octets _ f.2
 

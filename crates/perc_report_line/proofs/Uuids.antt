@@ -7,7 +7,8 @@ use Rattle.std.proofs.lemmas.Bool.Decides.{nat_tests}
 use Rattle.std.proofs.lemmas.List.Elements.{All-cons, All-nil}
 use Rattle.std.proofs.lemmas.List.Folds.{list_all_at}
 use Rattle.std.proofs.lemmas.Option.{cond_some}
-use Rattle.uuid.specs.Text.{by_index, byte_of_digits, value_of, is_hex_digit, is_hyphen_place, digit_place, digits_of, nibble, hex_digit, hyphenated_text, lower, parsed, parsed_simple, parsed_hyphenated, parsed_braced, parsed_urn, has_urn_prefix, open_brace, close_brace}
+use Rattle.uuid.specs.Text.{by_index, byte_of_digits, value_of, is_hex_digit, is_hyphen_place, digit_place, digits_of, nibble, hex_digit, hyphenated_text}
+use Rattle.uuid.specs.Text.{lower, parsed, parsed_simple, parsed_hyphenated, parsed_braced, parsed_urn, has_urn_prefix, open_brace, close_brace}
 use Rattle.uuid.proofs.TextLemmas.{by_index_length, nibble_small}
 use Rattle.uuid.proofs.RoundTrips.{parses_hyphenated}
 use Rattle.perc_word.specs.Word.{are_octets, uuid_in}

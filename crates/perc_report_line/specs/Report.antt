@@ -6,7 +6,8 @@ use Rattle.std.specs.Fmt.{decimal}
 use Rattle.hex.specs.Hex.{encode_lower}
 use Rattle.uuid.specs.Text.{hyphenated_text, lower}
 use Rattle.perc_rtp.specs.Media.{is_payload_type}
-use Rattle.perc_word.specs.Word.{◌>>=◌, words_of, first_of, word_then, ends, text_in, Also, IsName, name_in, number_in, most_of_two, most_of_four, AreSomeOctets, are_octets, octets_in, payload_in, payload_text, payload_type_in, marker_in, marker_text, uuid_in}
+use Rattle.perc_word.specs.Word.{◌>>=◌, words_of, first_of, word_then, ends, text_in, Also, IsName, name_in, number_in, most_of_two, most_of_four}
+use Rattle.perc_word.specs.Word.{AreSomeOctets, are_octets, octets_in, payload_in, payload_text, payload_type_in, marker_in, marker_text, uuid_in}
 use Rattle.perc_report_line.specs.declared.reasons.Refusal.{Refusal}
 use Rattle.perc_report_line.specs.declared.reasons.Denial.{Denial}
 use Rattle.perc_report_line.specs.declared.reasons.Loss.{Loss}

@@ -12,7 +12,8 @@ use Rattle.perc_word.proofs.Taking.{taken, ended, option_taken}
 use Rattle.perc_script_line.specs.declared.verb.Verb.{Verb}
 use Rattle.perc_script_line.specs.declared.verb.Verb.TheVariants as verb
 use Rattle.perc_script_line.specs.Script as script
-use Rattle.perc_script_line.specs.Script.{Script, Options, AreOptions, Changes, AreChanges, IsScript, Spells, script_words, options_words, changes_words, means_nothing, verb_in, verb_text, said_by, script_of, is_short, options_next, changes_next, profile_text, most_recipients}
+use Rattle.perc_script_line.specs.Script.{Script, Options, AreOptions, Changes, AreChanges, IsScript, Spells, script_words, options_words, changes_words}
+use Rattle.perc_script_line.specs.Script.{means_nothing, verb_in, verb_text, said_by, script_of, is_short, options_next, changes_next, profile_text, most_recipients}
 use Rattle.perc_script_line.proofs.Sorts.{verb_kind, profile_kind, two_kind, four_kind, payload_type_kind, key_kind, pair_kind, salt_kind, rtcp_kind, datagram_kind, datagrams_kind, names_kind}
 use Rattle.perc_script_line.proofs.Several.{options_back, changes_back}
 

@@ -19,7 +19,8 @@ use Rattle.perc_word.proofs.Spelling.{Spelling, chosen, same, bytes_from, only_s
 use Rattle.perc_word.proofs.Items.{list_spelling}
 use Rattle.perc_script_line.specs.declared.verb.Verb.{Verb}
 use Rattle.perc_script_line.specs.declared.verb.Verb.TheVariants as verb
-use Rattle.perc_script_line.specs.Script.{Replaced, Dropped, By, IsReplaced, verbs, verb_in, verb_text, profile_in, profile_text, is_key, is_pair, is_salt, key_in, pair_in, salt_in, is_rtcp, rtcp_octets_in, is_datagram, datagram_in, is_extension, extension_in, pad_in, most_csrcs, most_datagrams, most_recipients, replaced_in, replaced_text}
+use Rattle.perc_script_line.specs.Script.{Replaced, Dropped, By, IsReplaced, verbs, verb_in, verb_text, profile_in, profile_text, is_key, is_pair, is_salt, key_in, pair_in, salt_in, is_rtcp}
+use Rattle.perc_script_line.specs.Script.{rtcp_octets_in, is_datagram, datagram_in, is_extension, extension_in, pad_in, most_csrcs, most_datagrams, most_recipients, replaced_in, replaced_text}
 
 -- ---- texts
 

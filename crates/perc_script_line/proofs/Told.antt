@@ -18,7 +18,8 @@ use Rattle.perc_script_line.proofs.Sorts.{verb_kind, profile_kind, two_kind, fou
 use Rattle.perc_script_line.proofs.Several.{options_again, options_free, changes_again, changes_free, Lacks}
 
 -- a line is read by its words
-by_words : (octets : List ℕ) (v : Verb) (words : List (List ℕ)) (s : Script) → means_nothing octets ≡ false → words_of octets ≡ verb_text v ∷ words → said_by v words ≡ Some s → script_of octets ≡ Some s
+by_words : (octets : List ℕ) (v : Verb) (words : List (List ℕ)) (s : Script) → means_nothing octets ≡ false
+    → words_of octets ≡ verb_text v ∷ words → said_by v words ≡ Some s → script_of octets ≡ Some s
 unfolding script_of
 by_words octets v words s meant e said = rw (meant, e) (again_taken _ _ _ verb_kind _ v words tt ∙ said)
 

@@ -11,7 +11,8 @@ use Rattle.perc_base.specs.declared.profile.Profile.TheVariants.{Aes128, Aes256}
 use Rattle.perc_base.specs.Profile.{key_length}
 use Rattle.perc_rtp.specs.Carried.{longest_rtcp}
 use Rattle.perc_rtp.specs.Media.{is_payload_type, longest_payload}
-use Rattle.perc_word.specs.Word.{◌>>=◌, words_of, word_then, ends, option_then, option_words, only, Also, text_in, IsName, name_in, name_text, number_in, most_of_two, most_of_four, AreSomeOctets, are_octets, octets_in, ssrc_in, ssrc_text, payload_in, payload_text, payload_type_in, marker_in, marker_text, list_text, AreItems, ssrcs_in, datagrams_in, names_in}
+use Rattle.perc_word.specs.Word.{◌>>=◌, words_of, word_then, ends, option_then, option_words, only, Also, text_in, IsName, name_in, name_text, number_in, most_of_two, most_of_four, AreSomeOctets}
+use Rattle.perc_word.specs.Word.{are_octets, octets_in, ssrc_in, ssrc_text, payload_in, payload_text, payload_type_in, marker_in, marker_text, list_text, AreItems, ssrcs_in, datagrams_in, names_in}
 use Rattle.perc_script_line.specs.declared.verb.Verb.{Verb}
 use Rattle.perc_script_line.specs.declared.verb.Verb.TheVariants as verb
 

@@ -1,5 +1,6 @@
 -- Laws of sealed RTCP packets: what opens is what was sealed, and a packet tells its index.
-use Rattle.std.proofs.Common.{◌≡◌, ℕ, ◌+◌, ◌-◌, ◌^◌, ◌<◌, ◌≤◌, nat_le, Bool, true, false, ◌&&◌, if◌then◌else◌, List, [], ◌++◌, length, take, drop, get_or, Option, Some, None, option_map, bytes_eq, ⊎_elim, refl, sym, ap, ◌∙◌, append_assoc, arith}
+use Rattle.std.proofs.Common.{◌≡◌, ℕ, ◌+◌, ◌-◌, ◌^◌, ◌<◌, ◌≤◌, nat_le, Bool, true, false, ◌&&◌, if◌then◌else◌, List, [], ◌++◌, length, take}
+use Rattle.std.proofs.Common.{drop, get_or, Option, Some, None, option_map, bytes_eq, ⊎_elim, refl, sym, ap, ◌∙◌, append_assoc, arith}
 use Rattle.std.proofs.lemmas.Bool.{cases_lt, le-leb, leb-true}
 use Rattle.std.proofs.lemmas.List.{drop-drop, drop-take, drop_at, get_or-drop, get_or-take, get_or_past, length-append, length-take, length-take-le, take-append-drop, take_at}
 use Rattle.std.proofs.lemmas.Option.{same_Some}

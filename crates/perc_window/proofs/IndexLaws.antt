@@ -61,7 +61,9 @@ has_none [] index is = refl
 has_none (i ∷ accepted) index is = grind arith
 
 -- one more index, over any greatest one of the others
-bounds_more : (others : Option ℕ) (member : Bool) (i h index : ℕ) → (others ≡ None → member ≡ false) → ((g : ℕ) → others ≡ Some g → member ≡ true → index ≤ g) → option_map_or (max i) others i ≡ h → (eqb i index || member) ≡ true → index ≤ h
+bounds_more : (others : Option ℕ) (member : Bool) (i h index : ℕ) → (others ≡ None → member ≡ false)
+    → ((g : ℕ) → others ≡ Some g → member ≡ true → index ≤ g) → option_map_or (max i) others i ≡ h → (eqb i index || member) ≡ true
+    → index ≤ h
 bounds_more None member i h index none some is found = let e = none refl in grind (arith, nat_tests)
 bounds_more (Some g) true i h index none some is found = omega (arith, some g refl refl)
 bounds_more (Some g) false i h index none some is found = grind (arith, nat_tests)
@@ -118,7 +120,9 @@ pub has_other : (accepted : List ℕ) (i index : ℕ) → (i ≡ index → ⊥) 
 has_other accepted i index other = grind (arith, nat_tests)
 
 -- `freshness_same`, by cases of the highest index
-freshness_same_at : (highest : Option ℕ) (behind : List Bool) (accepted : List ℕ) (index : ℕ) → StandsFor (record { highest = highest; behind = behind }) accepted → freshness_at (record { highest = highest; behind = behind }) index ≡ freshness accepted index
+freshness_same_at : (highest : Option ℕ) (behind : List Bool) (accepted : List ℕ) (index : ℕ)
+    → StandsFor (record { highest = highest; behind = behind }) accepted
+    → freshness_at (record { highest = highest; behind = behind }) index ≡ freshness accepted index
 freshness_same_at None behind accepted index stands = grind (arith, nat_tests, has_none accepted index, stands.highest)
 freshness_same_at (Some h) behind accepted index stands =
     let top = sym stands.highest in

@@ -13,7 +13,9 @@ use Rattle.perc_window.proofs.IndexLaws.{has_none, has_above}
 -- ---- what a window stands for
 
 -- an index above the highest
-pub marked_ahead : (h index by place : ℕ) (behind moved new : List Bool) (accepted : List ℕ) → StandsFor (record { highest = Some h; behind = behind }) accepted → h < index → by ≡ index - h → IsMovedUp behind by moved → IsMarkedAt moved place new → place ≡ 0 → StandsFor (record { highest = Some index; behind = new }) (index ∷ accepted)
+pub marked_ahead : (h index by place : ℕ) (behind moved new : List Bool) (accepted : List ℕ)
+    → StandsFor (record { highest = Some h; behind = behind }) accepted → h < index → by ≡ index - h → IsMovedUp behind by moved
+    → IsMarkedAt moved place new → place ≡ 0 → StandsFor (record { highest = Some index; behind = new }) (index ∷ accepted)
 marked_ahead h index by place behind moved new accepted stands above by_is shifted marked place_is = record {
   highest = grind (arith, sym stands.highest);
   marks = λ k in_window in_range.
@@ -33,7 +35,9 @@ marked_ahead h index by place behind moved new accepted stands above by_is shift
 }
 
 -- the first index
-pub marked_first : (index place : ℕ) (behind moved new : List Bool) (accepted : List ℕ) → StandsFor (record { highest = None; behind = behind }) accepted → IsMovedUp behind window_size moved → IsMarkedAt moved place new → place ≡ 0 → StandsFor (record { highest = Some index; behind = new }) (index ∷ accepted)
+pub marked_first : (index place : ℕ) (behind moved new : List Bool) (accepted : List ℕ)
+    → StandsFor (record { highest = None; behind = behind }) accepted → IsMovedUp behind window_size moved → IsMarkedAt moved place new
+    → place ≡ 0 → StandsFor (record { highest = Some index; behind = new }) (index ∷ accepted)
 marked_first index place behind moved new accepted stands shifted marked place_is = record {
   highest = grind (arith, sym stands.highest);
   marks = λ k in_window in_range.
@@ -76,7 +80,9 @@ shr : (n by k : ℕ) → bit_at (n / 2 ^ by) k ≡ bit_at n (by + k)
 shr n by k = ap (λ (m : ℕ). m % 2) (shr-shr n by k)
 
 -- what words stand so
-moved_marks : (low high new_low new_high by : ℕ) → ((k : ℕ) → k < window_size → is_marked new_low new_high k ≡ (if nat_lt k by then false else is_marked low high (k - by))) → IsMovedUp (marks_of low high) by (marks_of new_low new_high)
+moved_marks : (low high new_low new_high by : ℕ)
+    → ((k : ℕ) → k < window_size → is_marked new_low new_high k ≡ (if nat_lt k by then false else is_marked low high (k - by)))
+    → IsMovedUp (marks_of low high) by (marks_of new_low new_high)
 moved_marks low high new_low new_high by moved = λ k within.
     let new = marks_at new_low new_high k within in
     let old = marks_at low high (k - by) (omega arith) in

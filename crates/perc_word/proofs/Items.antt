@@ -126,7 +126,8 @@ and_turned false true c = refl
 and_turned false false c = refl
 
 -- one item more
-pub read_more : {A : Type 0} (reads : List ℕ → Option A) (n m : ℕ) (word : List ℕ) (words : List (List ℕ)) → n ≡ m + 1 → is_read reads n (word ∷ words) ≡ (is_some (reads word) && is_read reads m words)
+pub read_more : {A : Type 0} (reads : List ℕ → Option A) (n m : ℕ) (word : List ℕ) (words : List (List ℕ)) → n ≡ m + 1
+    → is_read reads n (word ∷ words) ≡ (is_some (reads word) && is_read reads m words)
 read_more reads n m word words e =
     ap (λ b. b && is_some (all_in reads (word ∷ words))) (le_suc (length words) m n e)
     ∙ ap (λ b. nat_le (length words) m && b) (read_first (reads word) (all_in reads words))

@@ -1,5 +1,6 @@
 -- Octets and their spelling in lower-case hexadecimal.
-use Rattle.std.proofs.Common.{◌≡◌, ℕ, zero, suc, ◌+◌, ◌*◌, ◌/◌, ◌%◌, ◌<◌, ◌≤◌, ◌==◌, Bool, true, false, ◌||◌, not, inl, inr, List, [], ◌∷◌, ◌++◌, length, take, set, get_or, slice_index, Option, Some, None, unwrap_or, Result, Ok, Err, refl, sym, ap, ◌∙◌, arith}
+use Rattle.std.proofs.Common.{◌≡◌, ℕ, zero, suc, ◌+◌, ◌*◌, ◌/◌, ◌%◌, ◌<◌, ◌≤◌, ◌==◌, Bool, true, false, ◌||◌, not, inl, inr, List, [], ◌∷◌, ◌++◌}
+use Rattle.std.proofs.Common.{length, take, set, get_or, slice_index, Option, Some, None, unwrap_or, Result, Ok, Err, refl, sym, ap, ◌∙◌, arith}
 use Rattle.std.specs.List.{AllPass, list_all}
 use Rattle.std.proofs.lemmas.List.{take_more_set}
 use Rattle.std.proofs.lemmas.Grind.{take_at_read}
@@ -185,7 +186,8 @@ pub spelled_twice : (digits : List ℕ) → digits ≡ encode_lower (spelled_oct
 spelled_twice digits h = ap length h ∙ length-encode_with lower_digits (spelled_octets digits)
 
 -- the octet of two digits
-pub octet_of_two : (digits : List ℕ) (i : ℕ) → digits ≡ encode_lower (spelled_octets digits) → i < length (spelled_octets digits) → octet_value (get_or digits (2 * i) 0) (get_or digits (2 * i + 1) 0) ≡ get_or (spelled_octets digits) i 0
+pub octet_of_two : (digits : List ℕ) (i : ℕ) → digits ≡ encode_lower (spelled_octets digits) → i < length (spelled_octets digits)
+    → octet_value (get_or digits (2 * i) 0) (get_or digits (2 * i + 1) 0) ≡ get_or (spelled_octets digits) i 0
 octet_of_two digits i h lt =
     ap (λ xs. octet_value (get_or xs (2 * i) 0) (get_or xs (2 * i + 1) 0)) h ∙ octet_at (spelled_octets digits) i (spelled_bytes digits h) lt
 

@@ -13,7 +13,8 @@ use Rattle.byteorder.specs.Endian.{big_bytes, big_number}
 use Rattle.hex.specs.Hex.{IsBytes, decode_of, encode_lower, encode_with, lower_digits}
 use Rattle.hex.specs.declared.error.FromHexError.{FromHexError}
 use Rattle.hex.proofs.HexLemmas.{decode_of-ok, decode_of-encode_lower, length-encode_with}
-use Rattle.perc_word.specs.Word.{is_upper, is_alphanumeric, is_name, IsName, name_in, name_text, number_in, value_onto, are_octets, AreSomeOctets, Also, only, text_in, marker_in, marker_text, octets_in, spelled_by, ssrc_in, ssrc_text, payload_in, payload_text, dash}
+use Rattle.perc_word.specs.Word.{is_upper, is_alphanumeric, is_name, IsName, name_in, name_text, number_in, value_onto, are_octets, AreSomeOctets, Also}
+use Rattle.perc_word.specs.Word.{only, text_in, marker_in, marker_text, octets_in, spelled_by, ssrc_in, ssrc_text, payload_in, payload_text, dash}
 use Rattle.perc_word.specs.Digits.{is_digit, is_lower_digit}
 use Rattle.perc_word.proofs.Numerals.{own, decimal-numeral, number_some}
 use Rattle.perc_word.proofs.Spelled.{encode-lower}

@@ -2,7 +2,8 @@ use Rattle.std.proofs.Common.{ℕ, ◌+◌, IsTrue, sym, ◌∙◌, ap, arith, r
 use Rattle.std.specs.Int.{w32, to_be_bytes}
 use Rattle.perc_keywrap.proofs.Prepared.{words_of, zeros_of, prepared_from, rest_is_zeros, zeros_are_rest}
 use Rattle.perc_keywrap.proofs.padding.plain_length.Goals as goal
-use Rattle.perc_keywrap.proofs.padding.plain_length.Goals.{then-word_at-ne-CONSTANT-via-then-word_at-ne-CONSTANT, then-word_at-ne-CONSTANT-via-else-word_at-ne-CONSTANT+then-room-len, then-word_at-ne-CONSTANT-via-else-word_at-ne-CONSTANT+else-room-len+then-len-room, then-word_at-ne-CONSTANT-via-else-word_at-ne-CONSTANT+else-room-len+else-len-room+then-not-are_zeros}
+use Rattle.perc_keywrap.proofs.padding.plain_length.Goals.{then-word_at-ne-CONSTANT-via-then-word_at-ne-CONSTANT, then-word_at-ne-CONSTANT-via-else-word_at-ne-CONSTANT+then-room-len}
+use Rattle.perc_keywrap.proofs.padding.plain_length.Goals.{then-word_at-ne-CONSTANT-via-else-word_at-ne-CONSTANT+else-room-len+then-len-room, then-word_at-ne-CONSTANT-via-else-word_at-ne-CONSTANT+else-room-len+else-len-room+then-not-are_zeros}
 
 pub returns-clause-none : goal.returns-clause-none
 returns-clause-none c =
