@@ -30,7 +30,7 @@ use Rattle.perc_distributor.specs.declared.fault.ForwardFault.{ForwardFault}
 use Rattle.perc_distributor.specs.declared.fault.ForwardFault.TheVariants as fault
 use Rattle.perc_distributor.specs.declared.fault.InboundFault.{InboundFault}
 use Rattle.perc_distributor.specs.Inbound.{Heard, Media, Packet, heard_of, taken}
-use Rattle.perc_distributor.specs.Forwarding.{Sealed, Sealing, as_forwarded, media_place, sent_media, sent_to}
+use Rattle.perc_distributor.specs.Forwarding.{Sealed, Sealing, as_forwarded, media_index, sent_media, sent_to}
 use Rattle.perc_distributor.specs.Hearing.{control_of, is_control, media_of}
 use Rattle.perc_distributor.specs.Laws.{HasArrived, HasSpelling, IsOnItsWay, IsRelayed, IsSent, OpensAsRelayed, datagram_of, opened_after, opened_as, sent_datagram}
 use Rattle.perc_distributor.proofs.HearingLaws.{by_kind, taken_as}
@@ -115,10 +115,10 @@ taken_media entries heard e at datagram from g inner block f entry is =
 -- ---- what was sent on
 
 -- why or where it is sealed
-sealed_place : (s : Sealing) (e : Entry) (place : ℕ) (change : Rewrite) (h : Header) (inner : List ℕ) (block : Ohb) (field : Field) (at : Result ℕ ForwardFault) (q : ℕ) (to octets : List ℕ)
+sealed_with : (s : Sealing) (e : Entry) (place : ℕ) (change : Rewrite) (h : Header) (inner : List ℕ) (block : Ohb) (field : Field) (at : Result ℕ ForwardFault) (q : ℕ) (to octets : List ℕ)
     → (sent_media s e place change h inner block field at).0 ≡ Sealed q to octets → (index : ℕ) × (at ≡ Ok index) × (octets ≡ datagram_of (session_keys e.server Srtp) index (relayed h change) inner (block_after h block change) field)
-sealed_place s e place change h inner block field (Ok index) q to octets is = (index, refl, cc)
-sealed_place s e place change h inner block field (Err f) q to octets is = absurd (cc)
+sealed_with s e place change h inner block field (Ok index) q to octets is = (index, refl, cc)
+sealed_with s e place change h inner block field (Err f) q to octets is = absurd (cc)
 
 forwarded_index : (found : Result ℕ TxFault) (index : ℕ) → as_forwarded found ≡ Ok index → found ≡ Ok index
 forwarded_index (Ok at) index is = let same : at ≡ index = cc in ap Ok same
@@ -130,23 +130,23 @@ by_room false true f g found index is = absurd (cc)
 by_room false false f g found index is = is
 
 -- The index at which a media packet is sealed is that of its stream,
-pub place_index : (streams : List OuterStream) (h : Header) (inner : List ℕ) (block : Ohb) (field : Field) (change : Rewrite) (index : ℕ) → media_place streams h inner block field change ≡ Ok index
+pub media_index_is : (streams : List OuterStream) (h : Header) (inner : List ℕ) (block : Ohb) (field : Field) (change : Rewrite) (index : ℕ) → media_index streams h inner block field change ≡ Ok index
     → tx_index (accepted_of streams h.ssrc) (relayed h change).seq ≡ Ok index
-place_index streams h inner block field change index is =
+media_index_is streams h inner block field change index is =
     forwarded_index (tx_index (accepted_of streams h.ssrc) (relayed h change).seq) index
     (by_room (is_full_for streams h.ssrc) (nat_lt 1500 (relayed_length h inner block change + length (spelling field))) fault.StreamLimit fault.Room (as_forwarded (tx_index (accepted_of streams h.ssrc) (relayed h change).seq)) index is)
 
 -- and is below 2^48.
-pub place_below : (streams : List OuterStream) (h : Header) (inner : List ℕ) (block : Ohb) (field : Field) (change : Rewrite) (index : ℕ)
-    → media_place streams h inner block field change ≡ Ok index → index < 2 ^ 48
-place_below streams h inner block field change index is =
-    (tx_is_nearest (accepted_of streams h.ssrc) (relayed h change).seq index (omega arith) (place_index streams h inner block field change index is)).in_range
+pub media_index_below : (streams : List OuterStream) (h : Header) (inner : List ℕ) (block : Ohb) (field : Field) (change : Rewrite) (index : ℕ)
+    → media_index streams h inner block field change ≡ Ok index → index < 2 ^ 48
+media_index_below streams h inner block field change index is =
+    (tx_is_nearest (accepted_of streams h.ssrc) (relayed h change).seq index (omega arith) (media_index_is streams h inner block field change index is)).in_range
 
 pub relayed_as : (s : Sealing) (e : Entry) (place : ℕ) (change : Rewrite) (from : List ℕ) (h : Header) (inner : List ℕ) (block : Ohb) (field : Field) (q : ℕ) (to octets : List ℕ)
     → (sent_to s e place change (Media from h inner block field)).0 ≡ Sealed q to octets → IsRelayed e h inner block field change octets
 relayed_as s e place change from h inner block field q to octets is =
-    let p = sealed_place s e place change h inner block field (media_place s.streams h inner block field change) q to octets is in
-    record { index = p.0; in_range = place_below s.streams h inner block field change p.0 p.1; sealed_as = p.2 }
+    let p = sealed_with s e place change h inner block field (media_index s.streams h inner block field change) q to octets is in
+    record { index = p.0; in_range = media_index_below s.streams h inner block field change p.0 p.1; sealed_as = p.2 }
 
 -- ---- what arrives
 

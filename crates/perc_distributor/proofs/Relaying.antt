@@ -11,20 +11,20 @@ use Rattle.perc_keyset.specs.Set.{is_of}
 use Rattle.perc_keyset.specs.declared.Entry.{Entry}
 use Rattle.perc_distributor.specs.declared.fault.ForwardFault.{ForwardFault}
 use Rattle.perc_distributor.specs.Inbound.{Control, Media, Packet, in_set}
-use Rattle.perc_distributor.specs.Forwarding.{Sealing, Sent, is_named, is_owned, media_place, media_step, recipients, sealing_of, sent_each, sent_from, sent_media, sent_to, source_of, with_sealing}
+use Rattle.perc_distributor.specs.Forwarding.{Sealing, Sent, is_named, is_owned, media_index, media_step, recipients, sealing_of, sent_each, sent_from, sent_media, sent_to, source_of, with_sealing}
 use Rattle.perc_distributor.specs.Parts.{control_place}
 use Rattle.perc_distributor.specs.Laws.{IsRelayOf, IsRelayedTo}
 use Rattle.perc_distributor.proofs.Sending.{control_by, sent_by}
-use Rattle.perc_distributor.proofs.Arriving.{place_below}
+use Rattle.perc_distributor.proofs.Arriving.{media_index_below}
 
 module _ (entries : List Entry) (batch : List Packet) (change : Rewrite) where
   media_relayed : (s : Sealing) (e : Entry) (place : ℕ) (from : List ℕ) (h : Header) (inner : List ℕ) (block : Ohb) (field : Field) (at : Result ℕ ForwardFault)
-      → slice_get batch place ≡ Some (Media from h inner block field) → Contains entries e → media_place s.streams h inner block field change ≡ at
+      → slice_get batch place ≡ Some (Media from h inner block field) → Contains entries e → media_index s.streams h inner block field change ≡ at
       → IsRelayOf entries batch change (sent_media s e place change h inner block field at).0
   media_relayed s e place from h inner block field (Err f) there member is = tt
   media_relayed s e place from h inner block field (Ok index) there member is =
       subst (IsRelayedTo entries change e.association _) (sym there)
-      (e, member, refl, record { index = index; in_range = place_below s.streams h inner block field change index is; sealed_as = refl })
+      (e, member, refl, record { index = index; in_range = media_index_below s.streams h inner block field change index is; sealed_as = refl })
 
   control_relayed : (s : Sealing) (e : Entry) (place : ℕ) (from octets : List ℕ) (at : Result ℕ ForwardFault) → slice_get batch place ≡ Some (Control from octets)
       → IsRelayOf entries batch change (sent_by s e place octets at).0
@@ -34,7 +34,7 @@ module _ (entries : List Entry) (batch : List Packet) (change : Rewrite) where
   sent_relayed : (s : Sealing) (e : Entry) (place : ℕ) (packet : Packet) → slice_get batch place ≡ Some packet → Contains entries e
       → IsRelayOf entries batch change (sent_to s e place change packet).0
   sent_relayed s e place (Media from h inner block field) there member =
-      media_relayed s e place from h inner block field (media_place s.streams h inner block field change) there member refl
+      media_relayed s e place from h inner block field (media_index s.streams h inner block field change) there member refl
   sent_relayed s e place (Control from octets) there member =
       subst (λ (step : Sent × Sealing). IsRelayOf entries batch change step.0) (sym (control_by s e place octets))
       (control_relayed s e place from octets (control_place s.rtcp octets) there)

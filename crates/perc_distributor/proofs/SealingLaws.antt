@@ -12,14 +12,14 @@ use Rattle.perc_ekt.specs.Field.{Field, spelling}
 use Rattle.perc_srtp.specs.Streams.{tx_index}
 use Rattle.perc_srtp.specs.declared.streams.TxFault.{TxFault}
 use Rattle.perc_srtp.specs.declared.streams.TxFault.TheVariants as tx
-use Rattle.perc_double.specs.Double.{as_relayed, relay_place, relayed, relayed_length}
+use Rattle.perc_double.specs.Double.{as_relayed, relaying_index, relayed, relayed_length}
 use Rattle.perc_double.specs.declared.relaying.RelayFault.{RelayFault}
 use Rattle.perc_distributor.specs.declared.fault.ForwardFault.{ForwardFault}
 use Rattle.perc_distributor.specs.declared.fault.ForwardFault.TheVariants as fault
 use Rattle.perc_distributor.specs.declared.plain.Plain.{Plain}
 use Rattle.perc_distributor.specs.Forwarding.{as_forwarded}
 use Rattle.perc_distributor.specs.Kept.{IsMedia}
-use Rattle.perc_distributor.specs.Parts.{IsForwarded, forward_fault, stream_place}
+use Rattle.perc_distributor.specs.Parts.{IsForwarded, forward_fault, stream_index}
 
 -- the field's length is told
 pub field_length : (p : Plain) (from : List ℕ) (h : Header) (inner : List ℕ) (o : Ohb) (field : Field) → IsMedia p from h inner o field → length p.octets ≡ 1500
@@ -39,20 +39,20 @@ field_at p from h inner o field is =
 
 -- Without room it isn't sealed,
 pub no_room : (before : List ℕ) (h : Header) (inner : List ℕ) (o : Ohb) (field : Field) (change : Rewrite) → 1500 < relayed_length h inner o change + length (spelling field)
-    → stream_place before h inner o field change ≡ Err fault.Room
+    → stream_index before h inner o field change ≡ Err fault.Room
 no_room before h inner o field change over =
     let full : nat_lt 1500 (relayed_length h inner o change + length (spelling field)) ≡ true = grind (arith, nat_tests) in
     cond-true (nat_lt 1500 (relayed_length h inner o change + length (spelling field))) _ _ full
 
 -- and with room at its index, both here and where it is relayed.
 pub with_room : (before : List ℕ) (h : Header) (inner : List ℕ) (o : Ohb) (field : Field) (change : Rewrite) → relayed_length h inner o change + length (spelling field) ≤ 1500
-    → stream_place before h inner o field change ≡ as_forwarded (tx_index before (relayed h change).seq)
+    → stream_index before h inner o field change ≡ as_forwarded (tx_index before (relayed h change).seq)
 with_room before h inner o field change fits =
     let room : nat_lt 1500 (relayed_length h inner o change + length (spelling field)) ≡ false = grind (arith, nat_tests) in
     cond-false (nat_lt 1500 (relayed_length h inner o change + length (spelling field))) _ _ room
 
 pub relayed_with_room : (before : List ℕ) (h : Header) (inner : List ℕ) (o : Ohb) (change : Rewrite) → relayed_length h inner o change ≤ 1500
-    → relay_place before h inner o change ≡ as_relayed (tx_index before (relayed h change).seq)
+    → relaying_index before h inner o change ≡ as_relayed (tx_index before (relayed h change).seq)
 relayed_with_room before h inner o change fits =
     let room : nat_lt 1500 (relayed_length h inner o change) ≡ false = grind (arith, nat_tests) in
     cond-false (nat_lt 1500 (relayed_length h inner o change)) _ _ room

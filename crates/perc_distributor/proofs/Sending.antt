@@ -17,7 +17,7 @@ use Rattle.perc_distributor.specs.declared.fault.ForwardFault.TheVariants as fau
 use Rattle.perc_distributor.specs.declared.plain.Plain.{Plain}
 use Rattle.perc_distributor.specs.declared.outputs.Output.TheVariants as output
 use Rattle.perc_distributor.specs.Inbound.{Packet, Media, Control}
-use Rattle.perc_distributor.specs.Forwarding.{Sealing, Sent, Sealed, Dropped, media_place, sent_control, sent_media, sent_to}
+use Rattle.perc_distributor.specs.Forwarding.{Sealing, Sent, Sealed, Dropped, media_index, sent_control, sent_media, sent_to}
 use Rattle.perc_distributor.specs.Kept.{IsPlain, IsSealing, Kept}
 use Rattle.perc_distributor.specs.Parts.{HasSent, IsForwarded, SealsControlFor, SealsMediaFor, control_place, media_datagram}
 use Rattle.perc_distributor.proofs.StreamsLaws.{forwarded_more}
@@ -26,11 +26,11 @@ use Rattle.perc_distributor.proofs.StreamsLaws.{forwarded_more}
 
 pub media_for : (k new : Kept) (s : Sealing) (server keys : KeyAndSalt) (h : Header) (inner : List ℕ) (o : Ohb) (field : Field) (change : Rewrite) (result : Result ℕ ForwardFault) (out : List ℕ)
     → IsSealing k s → keys ≡ session_keys server Srtp → new.rtcp ≡ k.rtcp
-    → IsForwarded (media_datagram keys h inner o field change) (λ at. outer.StandsFor new.streams (with_index h.ssrc at s.streams)) (media_place s.streams h inner o field change) result out
+    → IsForwarded (media_datagram keys h inner o field change) (λ at. outer.StandsFor new.streams (with_index h.ssrc at s.streams)) (media_index s.streams h inner o field change) result out
     → IsForwarded (media_datagram (session_keys server Srtp) h inner o field change) (λ at. IsSealing new (record s { streams = with_index h.ssrc at s.streams }))
-    (media_place s.streams h inner o field change) result out
+    (media_index s.streams h inner o field change) result out
 media_for k new s server keys h inner o field change result out stands keys_are still told =
-    let place : Result ℕ ForwardFault = media_place s.streams h inner o field change in
+    let place : Result ℕ ForwardFault = media_index s.streams h inner o field change in
     let K : ℕ → Type 0 = λ at. outer.StandsFor new.streams (with_index h.ssrc at s.streams) in
     forwarded_more place (media_datagram (session_keys server Srtp) h inner o field change) K (λ at. IsSealing new (record s { streams = with_index h.ssrc at s.streams })) result out
     (subst (λ (q : KeyAndSalt). IsForwarded (media_datagram q h inner o field change) K place result out) keys_are told)
@@ -92,7 +92,7 @@ pub sent_ok : (k new : Kept) (s : Sealing) (e : Entry) (place : ℕ) (p : Plain)
     → SealsMediaFor k e.server p change result octets new → SealsControlFor k e.server p result octets new → IsSealing k s → IsPlain p packet → result ≡ Ok len
     → HasSent (sent_to s e place change packet) (output.Sealed place e.association octets len) new
 sent_ok k new s e place p change (Media from h inner o field) result octets len media control stands is ok =
-    media_sent s e place change h inner o field (media_place s.streams h inner o field change) result octets len new (media s from h inner o field stands is) ok
+    media_sent s e place change h inner o field (media_index s.streams h inner o field change) result octets len new (media s from h inner o field stands is) ok
 sent_ok k new s e place p change (Control from plain) result octets len media control stands is ok =
     subst (λ (step : Sent × Sealing). HasSent step (output.Sealed place e.association octets len) new) (sym (control_by s e place plain))
     (control_sent s e place plain (control_place s.rtcp plain) result octets len new (control s from plain stands is) ok)
@@ -118,7 +118,7 @@ pub sent_err : (k new : Kept) (s : Sealing) (e : Entry) (place : ℕ) (p : Plain
     → SealsMediaFor k e.server p change result octets new → SealsControlFor k e.server p result octets new → IsSealing k s → IsPlain p packet → result ≡ Err f → new ≡ k
     → HasSent (sent_to s e place change packet) (output.Dropped place e.association f) new
 sent_err k new s e place p change (Media from h inner o field) result octets f media control stands is refused same =
-    media_dropped s e place change h inner o field (media_place s.streams h inner o field change) result octets f new (media s from h inner o field stands is) refused
+    media_dropped s e place change h inner o field (media_index s.streams h inner o field change) result octets f new (media s from h inner o field stands is) refused
     (subst (λ (x : Kept). IsSealing x s) (sym same) stands)
 sent_err k new s e place p change (Control from plain) result octets f media control stands is refused same =
     subst (λ (step : Sent × Sealing). HasSent step (output.Dropped place e.association f) new) (sym (control_by s e place plain))

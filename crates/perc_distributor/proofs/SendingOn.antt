@@ -18,7 +18,7 @@ use Rattle.perc_distributor.specs.declared.fault.ForwardFault.{ForwardFault}
 use Rattle.perc_distributor.specs.declared.plain.Plain.{Plain}
 use Rattle.perc_distributor.specs.declared.outputs.Output.{Output}
 use Rattle.perc_distributor.specs.Inbound.{Packet, Media, Control}
-use Rattle.perc_distributor.specs.Forwarding.{Sealing, Sent, is_named, is_owned, source_of, media_place, nothing_sealed, recipients, sealing_of, sent_each, sent_from, sent_media, sent_to, with_sealing}
+use Rattle.perc_distributor.specs.Forwarding.{Sealing, Sent, is_named, is_owned, source_of, media_index, nothing_sealed, recipients, sealing_of, sent_each, sent_from, sent_media, sent_to, with_sealing}
 use Rattle.perc_distributor.specs.Kept.{ArePlain, IsPlain, IsSealing, Kept, SameSealing, StandsFor, holds, kept_of, sent_of}
 use Rattle.perc_distributor.specs.Parts.{HasSent, control_place}
 use Rattle.perc_distributor.specs.Tables.{HasAdded, HasSentOne, IsPlaceOf, IsTable, OnlyOf}
@@ -37,7 +37,7 @@ control_serial s e place octets (Ok at) = refl
 control_serial s e place octets (Err f) = refl
 
 pub sent_serial : (s : Sealing) (e : Entry) (place : ℕ) (change : Rewrite) (packet : Packet) → (sent_to s e place change packet).1.serial ≡ s.serial
-sent_serial s e place change (Media from h inner o field) = media_serial s e place change h inner o field (media_place s.streams h inner o field change)
+sent_serial s e place change (Media from h inner o field) = media_serial s e place change h inner o field (media_index s.streams h inner o field change)
 sent_serial s e place change (Control from octets) =
     ap (λ (step : Sent × Sealing). step.1.serial) (control_by s e place octets) ∙ control_serial s e place octets (control_place s.rtcp octets)
 

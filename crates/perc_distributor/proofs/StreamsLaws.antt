@@ -21,9 +21,9 @@ use Rattle.perc_outer.proofs.Standing.{held_at, none_held, stands_held, stands_n
 use Rattle.perc_distributor.specs.declared.fault.ForwardFault.{ForwardFault}
 use Rattle.perc_distributor.specs.declared.fault.ForwardFault.TheVariants as fault
 use Rattle.perc_distributor.specs.declared.plain.Plain.{Plain}
-use Rattle.perc_distributor.specs.Forwarding.{media_place}
+use Rattle.perc_distributor.specs.Forwarding.{media_index}
 use Rattle.perc_distributor.specs.Kept.{IsMedia, MediaOf}
-use Rattle.perc_distributor.specs.Parts.{IsForwarded, stream_place}
+use Rattle.perc_distributor.specs.Parts.{IsForwarded, stream_index}
 
 -- An opened packet has one header.
 pub one_header : (p : Plain) (from : List ℕ) (h : Header) (inner : List ℕ) (o : Ohb) (field : Field) (m : MediaOf p) → IsMedia p from h inner o field → h ≡ m.header
@@ -33,11 +33,11 @@ one_header p from h inner o field m is =
 -- ---- where it is sealed
 
 pub place_full : (before : List OuterStream) (h : Header) (inner : List ℕ) (o : Ohb) (field : Field) (change : Rewrite) → is_full_for before h.ssrc ≡ true
-    → media_place before h inner o field change ≡ Err fault.StreamLimit
+    → media_index before h inner o field change ≡ Err fault.StreamLimit
 place_full before h inner o field change full = cond-true (is_full_for before h.ssrc) _ _ full
 
 pub place_in : (before : List OuterStream) (h : Header) (inner : List ℕ) (o : Ohb) (field : Field) (change : Rewrite) → is_full_for before h.ssrc ≡ false
-    → media_place before h inner o field change ≡ stream_place (accepted_of before h.ssrc) h inner o field change
+    → media_index before h inner o field change ≡ stream_index (accepted_of before h.ssrc) h inner o field change
 place_in before h inner o field change room = cond-false (is_full_for before h.ssrc) _ _ room
 
 -- What is forwarded keeps what follows from what was kept,
@@ -94,10 +94,10 @@ begins_room kept before h place b few =
 -- It is sealed as in a stream where nothing was sealed.
 pub begins_place : (kept : List Stream) (before : List OuterStream) (h : Header) (place : ℕ) (inner : List ℕ) (o : Ohb) (field : Field) (change : Rewrite)
     → Begins kept before h place → length kept < 256
-    → media_place before h inner o field change ≡ stream_place [] h inner o field change
+    → media_index before h inner o field change ≡ stream_index [] h inner o field change
 begins_place kept before h place inner o field change b few =
     let room = begins_room kept before h place b few in
-    place_in before h inner o field change room.0 ∙ ap (λ (was : List ℕ). stream_place was h inner o field change) room.1
+    place_in before h inner o field change room.0 ∙ ap (λ (was : List ℕ). stream_index was h inner o field change) room.1
 
 pub begins_kept : (kept : List Stream) (before : List OuterStream) (h : Header) (place : ℕ) (t : Stream) → Begins kept before h place → length kept < 256 → t.ssrc ≡ h.ssrc
     → (index : ℕ) → WindowStandsFor t.window (index ∷ []) → StandsFor (insert kept place t) (with_index h.ssrc index before)
@@ -126,7 +126,7 @@ goes_on kept now before h ssrc place s same stands rise its at is =
     record { stands = all; at = there; rise = rise; held = held.1; window = held.0 }
 
 pub goes_on_place : (kept : List Stream) (before : List OuterStream) (h : Header) (place : ℕ) (s : Stream) (inner : List ℕ) (o : Ohb) (field : Field) (change : Rewrite) → GoesOn kept before h place s
-    → media_place before h inner o field change ≡ stream_place (accepted_of before h.ssrc) h inner o field change
+    → media_index before h inner o field change ≡ stream_index (accepted_of before h.ssrc) h inner o field change
 goes_on_place kept before h place s inner o field change g =
     place_in before h inner o field change (held_room (list_any (is_of h.ssrc) before) (length before) g.held)
 

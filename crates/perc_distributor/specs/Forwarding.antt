@@ -77,8 +77,8 @@ abbrev pub as_forwarded : Result ℕ TxFault → Result ℕ ForwardFault
 as_forwarded (Ok index) = Ok index
 as_forwarded (Err f) = Err (tx_fault f)
 
-abbrev pub media_place : List OuterStream → Header → List ℕ → Ohb → Field → Rewrite → Result ℕ ForwardFault
-media_place streams h inner block field change =
+abbrev pub media_index : List OuterStream → Header → List ℕ → Ohb → Field → Rewrite → Result ℕ ForwardFault
+media_index streams h inner block field change =
     if is_full_for streams h.ssrc then Err fault.StreamLimit
     else (if nat_lt most_octets (relayed_length h inner block change + length (spelling field)) then Err fault.Room
     else as_forwarded (tx_index (accepted_of streams h.ssrc) (relayed h change).seq))
@@ -97,7 +97,7 @@ sent_control s e place octets =
 -- one packet for one entry, over what is kept of its serial
 abbrev pub sent_to : Sealing → Entry → ℕ → Rewrite → Packet → Sent × Sealing
 sent_to s e place change (Media from h inner block field) =
-    sent_media s e place change h inner block field (media_place s.streams h inner block field change)
+    sent_media s e place change h inner block field (media_index s.streams h inner block field change)
 sent_to s e place change (Control from octets) = sent_control s e place octets
 
 -- ---- a batch

@@ -20,7 +20,7 @@ use Rattle.perc_distributor.specs.declared.fault.ForwardFault.TheVariants as fau
 use Rattle.perc_distributor.specs.declared.plain.Plain.{Plain}
 use Rattle.perc_distributor.specs.declared.outputs.Output.{Output}
 use Rattle.perc_distributor.specs.Inbound.{Packet}
-use Rattle.perc_distributor.specs.Forwarding.{Sealing, Sent, as_forwarded, media_place, most_octets, sent_to}
+use Rattle.perc_distributor.specs.Forwarding.{Sealing, Sent, as_forwarded, media_index, most_octets, sent_to}
 use Rattle.perc_keyset.specs.declared.Entry.{Entry}
 use Rattle.perc_distributor.specs.Kept.{IsControl, IsMedia, IsPlain, IsSealing, Kept, sent_of}
 
@@ -44,8 +44,8 @@ media_datagram keys h inner o field change at =
     double keys at (relayed h change) inner (block_after h o change) ++ spelling field
 
 -- its index in a stream where these were sealed, or why it isn't
-abbrev pub stream_place : List ℕ → Header → List ℕ → Ohb → Field → Rewrite → Result ℕ ForwardFault
-stream_place before h inner o field change =
+abbrev pub stream_index : List ℕ → Header → List ℕ → Ohb → Field → Rewrite → Result ℕ ForwardFault
+stream_index before h inner o field change =
     if nat_lt most_octets (relayed_length h inner o change + length (spelling field)) then Err fault.Room
     else as_forwarded (tx_index before (relayed h change).seq)
 
@@ -53,14 +53,14 @@ stream_place before h inner o field change =
 abbrev pub SealsInStream : Marks → KeyAndSalt → Plain → Rewrite → Result ℕ ForwardFault → List ℕ → Marks → Type 0
 SealsInStream window keys plain change result out after =
     (before from : List ℕ) (h : Header) (inner : List ℕ) (o : Ohb) (field : Field) → WindowStandsFor window before → IsMedia plain from h inner o field
-    → IsForwarded (media_datagram keys h inner o field change) (λ at. WindowStandsFor after (at ∷ before)) (stream_place before h inner o field change) result out
+    → IsForwarded (media_datagram keys h inner o field change) (λ at. WindowStandsFor after (at ∷ before)) (stream_index before h inner o field change) result out
 
 -- It is sealed in its stream among these.
 abbrev pub SealsInStreams : List Stream → KeyAndSalt → Plain → Rewrite → Result ℕ ForwardFault → List ℕ → List Stream → Type 0
 SealsInStreams kept keys plain change result out after =
     (before : List OuterStream) (from : List ℕ) (h : Header) (inner : List ℕ) (o : Ohb) (field : Field) → outer.StandsFor kept before → IsMedia plain from h inner o field
     → IsForwarded (media_datagram keys h inner o field change) (λ at. outer.StandsFor after (with_index h.ssrc at before))
-    (media_place before h inner o field change) result out
+    (media_index before h inner o field change) result out
 
 -- ---- control
 
@@ -87,7 +87,7 @@ abbrev pub SealsMediaFor : Kept → KeyAndSalt → Plain → Rewrite → Result 
 SealsMediaFor kept server plain change result out after =
     (s : Sealing) (from : List ℕ) (h : Header) (inner : List ℕ) (o : Ohb) (field : Field) → IsSealing kept s → IsMedia plain from h inner o field
     → IsForwarded (media_datagram (session_keys server Srtp) h inner o field change)
-    (λ at. IsSealing after (record s { streams = with_index h.ssrc at s.streams })) (media_place s.streams h inner o field change) result out
+    (λ at. IsSealing after (record s { streams = with_index h.ssrc at s.streams })) (media_index s.streams h inner o field change) result out
 
 abbrev pub SealsControlFor : Kept → KeyAndSalt → Plain → Result ℕ ForwardFault → List ℕ → Kept → Type 0
 SealsControlFor kept server plain result out after =

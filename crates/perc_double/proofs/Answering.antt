@@ -7,7 +7,7 @@ use Rattle.perc_rtp.specs.Header.{Header, IsPacket, spelling}
 use Rattle.perc_srtp.proofs.PacketLaws.{forged_opens, length-sealed_body, tx_is_nearest, tx_once}
 use Rattle.perc_kdf.specs.Derivation.{KeyAndSalt}
 use Rattle.perc_srtp.specs.Sealed.{unsealed_body}
-use Rattle.perc_srtp.specs.Streams.{tx_index, tx_place}
+use Rattle.perc_srtp.specs.Streams.{tx_index, sealing_index}
 use Rattle.perc_srtp.specs.declared.streams.TxFault.{TxFault}
 use Rattle.perc_srtp.specs.declared.streams.TxFault.TheVariants as tx
 use Rattle.perc_ohb.specs.declared.block.Ohb.{Ohb}
@@ -16,15 +16,15 @@ use Rattle.perc_ohb.specs.Block.{EndsIn}
 use Rattle.perc_ohb.specs.Rewriting.{Rewrite, block_after}
 use Rattle.perc_double.specs.declared.relaying.RelayFault.{RelayFault}
 use Rattle.perc_double.specs.declared.relaying.RelayFault.TheVariants as relaying
-use Rattle.perc_double.specs.Double.{IsNext, IsOpened, as_relayed, opened, relay_place, relayed, relayed_length}
+use Rattle.perc_double.specs.Double.{IsNext, IsOpened, as_relayed, opened, relaying_index, relayed, relayed_length}
 
 -- Where there is room, the index alone decides.
-pub tx_place_by_index : (before : List ℕ) (seq len room : ℕ) → len + 16 ≤ room → tx_place before seq len room ≡ tx_index before seq
-tx_place_by_index before seq len room fits = grind (arith, nat_tests)
+pub sealing_by_index : (before : List ℕ) (seq len room : ℕ) → len + 16 ≤ room → sealing_index before seq len room ≡ tx_index before seq
+sealing_by_index before seq len room fits = grind (arith, nat_tests)
 
-pub relay_place_by_index : (before : List ℕ) (h : Header) (octets : List ℕ) (o : Ohb) (c : Rewrite) → relayed_length h octets o c ≤ 1500
-    → relay_place before h octets o c ≡ as_relayed (tx_index before (relayed h c).seq)
-relay_place_by_index before h octets o c fits = grind (arith, nat_tests)
+pub relaying_by_index : (before : List ℕ) (h : Header) (octets : List ℕ) (o : Ohb) (c : Rewrite) → relayed_length h octets o c ≤ 1500
+    → relaying_index before h octets o c ≡ as_relayed (tx_index before (relayed h c).seq)
+relaying_by_index before h octets o c fits = grind (arith, nat_tests)
 
 -- a relay's answer from a stream's
 pub told_relayed : (r : Result ℕ TxFault) {P P' : ℕ → Type 0} {Q : TxFault → Type 0} {Q' : RelayFault → Type 0} → MatchResult r P Q

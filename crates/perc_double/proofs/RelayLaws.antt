@@ -7,7 +7,7 @@ use Rattle.perc_srtp.specs.Streams.{tx_index}
 use Rattle.perc_ohb.specs.declared.block.Ohb.{Ohb}
 use Rattle.perc_ohb.specs.Rewriting.{IsRewrite, Rewrite, IsExtensionSet, block_after, restored}
 use Rattle.perc_ohb.proofs.RewritingLaws.{IsHeader-changed, restored_with}
-use Rattle.perc_double.specs.Double.{IsNext, relay_place, relayed, relayed_length}
+use Rattle.perc_double.specs.Double.{IsNext, relaying_index, relayed, relayed_length}
 use Rattle.perc_double.proofs.Answering.{is_next, placed}
 
 extension_fits : (extension : Option (ℕ × List ℕ)) (e : Option (Option (ℕ × List ℕ))) → IfSome extension IsExtension → IsExtensionSet e → IfSome (unwrap_or e extension) IsExtension
@@ -34,7 +34,7 @@ pub restored_relayed : (h : Header) (o : Ohb) (c : Rewrite) → restored (relaye
 restored_relayed h o c = restored_with h o c (unwrap_or c.extension h.extension)
 
 -- a packet is relayed at the next index
-pub relayed_once : (before : List ℕ) (h : Header) (octets : List ℕ) (o : Ohb) (c : Rewrite) (index : ℕ) → relay_place before h octets o c ≡ Ok index
+pub relayed_once : (before : List ℕ) (h : Header) (octets : List ℕ) (o : Ohb) (c : Rewrite) (index : ℕ) → relaying_index before h octets o c ≡ Ok index
     → IsNext before (relayed h c).seq index
 relayed_once before h octets o c index is =
     is_next before (relayed h c).seq index (omega arith) (placed (nat_lt 1500 (relayed_length h octets o c)) (tx_index before (relayed h c).seq) index is)

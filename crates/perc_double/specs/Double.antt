@@ -55,8 +55,8 @@ as_relayed (Err (tx.NoIndex seq)) = Err (relaying.NoIndex seq)
 as_relayed (Err (tx.NonceUsed index)) = Err (relaying.NonceUsed index)
 
 -- the index at which it is sealed behind these, or why it isn't relayed: a datagram has at most 1500 octets
-abbrev pub relay_place : List ℕ → Header → List ℕ → Ohb → Rewrite → Result ℕ RelayFault
-relay_place before h octets o c =
+abbrev pub relaying_index : List ℕ → Header → List ℕ → Ohb → Rewrite → Result ℕ RelayFault
+relaying_index before h octets o c =
     if nat_lt 1500 (relayed_length h octets o c) then Err relaying.Room else as_relayed (tx_index before (relayed h c).seq)
 
 -- The index that the next packet with this SEQ takes behind these: it is none of them, and below 2^48.

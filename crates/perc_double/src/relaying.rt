@@ -4,7 +4,7 @@ ghost use Rattle.perc_rtp.specs.Header.{Header, IsHeader, IsPacket};
 ghost use Rattle.perc_window.specs.Replay.{StandsFor};
 ghost use Rattle.perc_ohb.specs.Rewriting.{IsRewrite, block_after, restored, rewrite_of};
 ghost use Rattle.perc_ohb.specs.declared.block.Ohb.{Ohb};
-ghost use Rattle.perc_double.specs.Double.{IsNext, IsOpened, as_relayed, double, opened, relay_place, relayed, relayed_length};
+ghost use Rattle.perc_double.specs.Double.{IsNext, IsOpened, as_relayed, double, opened, relaying_index, relayed, relayed_length};
 
 use super::parts::{put_body, sealed_len, write_header};
 use perc_ohb::{Change, Ohb, rewrite};
@@ -37,7 +37,7 @@ pub fn relay(
     requires reads { (h : Header) × (octets : List ℕ) × (o : Ohb) × IsOpened h octets o (take len packet.old) × (h.ssrc ≡ tx.old.ssrc) }
     ensures answer { (before : List ℕ) (h : Header) (octets : List ℕ) (o : Ohb)
         → StandsFor tx.old.window before → IsOpened h octets o (take len packet.old)
-        → MatchResult (relay_place before h octets o (rewrite_of change.now))
+        → MatchResult (relaying_index before h octets o (rewrite_of change.now))
         (λ at. (result ≡ Ok (relayed_length h octets o (rewrite_of change.now)))
         × (take (relayed_length h octets o (rewrite_of change.now)) packet.new ≡ double outer.now at (relayed h (rewrite_of change.now)) octets (block_after h o (rewrite_of change.now)))
         × StandsFor tx.new.window (at ∷ before))

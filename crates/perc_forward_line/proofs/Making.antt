@@ -24,7 +24,7 @@ use Rattle.perc_distributor.specs.declared.fault.ForwardFault.{ForwardFault}
 use Rattle.perc_distributor.specs.declared.fault.ForwardFault.TheVariants as fault
 use Rattle.perc_distributor.specs.declared.plain.Plain.{Plain}
 use Rattle.perc_distributor.specs.Inbound.{Control, Media, Packet, in_set}
-use Rattle.perc_distributor.specs.Forwarding.{Dropped, Sealed, Sealing, Sent, is_named, is_owned, media_place, media_step, most_octets, recipients}
+use Rattle.perc_distributor.specs.Forwarding.{Dropped, Sealed, Sealing, Sent, is_named, is_owned, media_index, media_step, most_octets, recipients}
 use Rattle.perc_distributor.specs.Forwarding.{sealing_of, sent_control, sent_each, sent_from, sent_media, sent_to, source_of, with_sealing}
 use Rattle.perc_distributor.specs.Kept.{ArePlain, IsPlain}
 use Rattle.perc_run.specs.Forwarding.{Taking, packet_in}
@@ -123,7 +123,7 @@ module _ (members : List Member) (packets : List Packet) (change : Rewrite) (may
   HasHeader (Control from octets) = Unit {0}
 
   sent_right : (s : Sealing) (e : Entry) (place : ℕ) (packet : Packet) → slice_get packets place ≡ Some packet → IsMembers members e → HasHeader packet → IsRight (sent_to s e place change packet).0
-  sent_right s e place (Media from h inner block field) there known is = media_right s e place from h inner block field (media_place s.streams h inner block field change) there known is
+  sent_right s e place (Media from h inner block field) there known is = media_right s e place from h inner block field (media_index s.streams h inner block field change) there known is
   sent_right s e place (Control from octets) there known is = control_right s e place from octets there known
 
   each_right : (es : List Entry) (place : ℕ) (packet : Packet) (sealing : List Sealing) → slice_get packets place ≡ Some packet → All (IsMembers members) es → HasHeader packet

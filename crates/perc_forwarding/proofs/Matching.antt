@@ -20,7 +20,7 @@ use Rattle.perc_keyset.proofs.Lists.{AllPairs-head, AllPairs-tail}
 use Rattle.perc_keyset.proofs.SetLaws.{IsSetOf-fold}
 use Rattle.perc_distributor.specs.declared.fault.ForwardFault.{ForwardFault}
 use Rattle.perc_distributor.specs.Inbound.{Control, Media, Packet, in_set}
-use Rattle.perc_distributor.specs.Forwarding.{Dropped, Sealed, Sealing, Sent, media_place, media_step, recipients, sealing_of, sent_each, sent_from, sent_media, sent_to, with_sealing}
+use Rattle.perc_distributor.specs.Forwarding.{Dropped, Sealed, Sealing, Sent, media_index, media_step, recipients, sealing_of, sent_each, sent_from, sent_media, sent_to, with_sealing}
 use Rattle.perc_distributor.specs.Parts.{control_place}
 use Rattle.perc_distributor.specs.Laws.{datagram_of}
 use Rattle.perc_distributor.proofs.Sending.{control_by, sent_by}
@@ -51,7 +51,7 @@ module _ (batch : List Packet) (change : Rewrite) where
 
   to_sealed : (s : Sealing) (e : Entry) (place : ℕ) (packet : Packet) → slice_get batch place ≡ Some packet
       → AreSealedWith batch change ((sent_to s e place change packet).0 ∷ []) (seals_to s e change packet)
-  to_sealed s e place (Media from h inner block field) there = media_sealed s e place from h inner block field (media_place s.streams h inner block field change) there
+  to_sealed s e place (Media from h inner block field) there = media_sealed s e place from h inner block field (media_index s.streams h inner block field change) there
   to_sealed s e place (Control from octets) there =
       subst (λ (step : Sent × Sealing). AreSealedWith batch change (step.0 ∷ []) (seal_of e Srtcp (rtcp_ssrc octets) (control_place s.rtcp octets))) (sym (control_by s e place octets))
       (control_sealed s e place from octets (control_place s.rtcp octets) there)

@@ -17,7 +17,7 @@ use Rattle.perc_keyset.proofs.SetLaws.{adds-append, from_fold}
 use Rattle.perc_keyset.proofs.Lists.{AllPairs-head, AllPairs-tail}
 use Rattle.perc_distributor.specs.declared.fault.ForwardFault.{ForwardFault}
 use Rattle.perc_distributor.specs.Inbound.{Control, Media, Packet, in_set}
-use Rattle.perc_distributor.specs.Forwarding.{Sealing, is_named, is_owned, media_place, recipients, sealing_of, sent_each, sent_to, source_of, with_sealing}
+use Rattle.perc_distributor.specs.Forwarding.{Sealing, is_named, is_owned, media_index, recipients, sealing_of, sent_each, sent_to, source_of, with_sealing}
 use Rattle.perc_distributor.specs.Parts.{control_place}
 use Rattle.perc_forwarding.specs.Runs.{AreOver, Call, Nonce, Seal, all_seals, call_sealing, call_seals, published, run_seals, seal_of, seals_each, seals_from, seals_to, step_seals}
 use Rattle.perc_forwarding.proofs.Running.{Differ, one_worker, published_on}
@@ -29,7 +29,7 @@ of_entry e kind ssrc (Err f) = All-nil (λ (u : Seal). u.entry ≡ e)
 of_entry e kind ssrc (Ok index) = All-cons (λ (u : Seal). u.entry ≡ e) (record { entry = e; kind = kind; ssrc = ssrc; index = index }) [] refl (All-nil (λ (u : Seal). u.entry ≡ e))
 
 to_entry : (s : Sealing) (e : Entry) (change : Rewrite) (packet : Packet) → All (λ u. u.entry ≡ e) (seals_to s e change packet)
-to_entry s e change (Media from h inner block field) = of_entry e Srtp h.ssrc (media_place s.streams h inner block field change)
+to_entry s e change (Media from h inner block field) = of_entry e Srtp h.ssrc (media_index s.streams h inner block field change)
 to_entry s e change (Control from octets) = of_entry e Srtcp (rtcp_ssrc octets) (control_place s.rtcp octets)
 
 each_entry : (P : Entry → Type 0) (es : List Entry) (place : ℕ) (change : Rewrite) (packet : Packet) (sealing : List Sealing) → All P es

@@ -21,9 +21,9 @@ use Rattle.perc_outer.proofs.Outer.{accepted_past, accepted_with}
 use Rattle.perc_distributor.specs.declared.fault.ForwardFault.{ForwardFault}
 use Rattle.perc_distributor.specs.declared.fault.ForwardFault.TheVariants as fault
 use Rattle.perc_distributor.specs.Inbound.{Control, Media, Packet}
-use Rattle.perc_distributor.specs.Forwarding.{Sealing, Sent, media_place, sent_media, sent_to}
+use Rattle.perc_distributor.specs.Forwarding.{Sealing, Sent, media_index, sent_media, sent_to}
 use Rattle.perc_distributor.specs.Parts.{control_place}
-use Rattle.perc_distributor.proofs.Arriving.{place_below, place_index}
+use Rattle.perc_distributor.proofs.Arriving.{media_index_below, media_index_is}
 use Rattle.perc_distributor.proofs.Sending.{control_by, sent_by}
 use Rattle.perc_forwarding.specs.Runs.{IsSound, Seal, iv_of, seal_of, seals_to}
 
@@ -102,14 +102,14 @@ keeps_same : (s : Sealing) → KeepsAll s s
 keeps_same s k a x old = old
 
 media_seals : (s : Sealing) (e : Entry) (place : ℕ) (change : Rewrite) (h : Header) (inner : List ℕ) (block : Ohb) (field : Field) (at : Result ℕ ForwardFault) → IsHeader h
-    → media_place s.streams h inner block field change ≡ at → Seals s (sent_media s e place change h inner block field at).1 e (seal_of e Srtp h.ssrc at)
+    → media_index s.streams h inner block field change ≡ at → Seals s (sent_media s e place change h inner block field at).1 e (seal_of e Srtp h.ssrc at)
 media_seals s e place change h inner block field (Err f) is_header is = record { keeps = keeps_same s; are = tt }
 media_seals s e place change h inner block field (Ok index) is_header is = record {
   keeps = keeps_media s h.ssrc index;
   are = record {
     entry = refl;
-    range = (is_header.ssrc, place_below s.streams h inner block field change index is);
-    new = tx_once (accepted_of s.streams h.ssrc) (relayed h change).seq index (place_index s.streams h inner block field change index is);
+    range = (is_header.ssrc, media_index_below s.streams h inner block field change index is);
+    new = tx_once (accepted_of s.streams h.ssrc) (relayed h change).seq index (media_index_is s.streams h inner block field change index is);
     kept = ap (λ (xs : List ℕ). has xs index) (accepted_with h.ssrc index s.streams) ∙ here index (accepted_of s.streams h.ssrc);
   };
 }
@@ -144,7 +144,7 @@ ssrc_below octets below =
 
 pub to_seals : (s : Sealing) (e : Entry) (place : ℕ) (change : Rewrite) (packet : Packet) → IsSound packet → Seals s (sent_to s e place change packet).1 e (seals_to s e change packet)
 to_seals s e place change (Media from h inner block field) sound =
-    media_seals s e place change h inner block field (media_place s.streams h inner block field change) sound refl
+    media_seals s e place change h inner block field (media_index s.streams h inner block field change) sound refl
 to_seals s e place change (Control from octets) sound =
     subst (λ (step : Sent × Sealing). Seals s step.1 e (seal_of e Srtcp (rtcp_ssrc octets) (control_place s.rtcp octets))) (sym (control_by s e place octets))
     (control_seals s e place octets (control_place s.rtcp octets) (ssrc_below octets sound) refl)

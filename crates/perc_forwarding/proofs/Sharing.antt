@@ -15,7 +15,7 @@ use Rattle.perc_keyset.specs.declared.Entry.{Entry}
 use Rattle.perc_keyset.proofs.Lists.{Contains-cons_cases}
 use Rattle.perc_distributor.specs.declared.fault.ForwardFault.{ForwardFault}
 use Rattle.perc_distributor.specs.Inbound.{Control, Media, Packet, in_set}
-use Rattle.perc_distributor.specs.Forwarding.{Sealing, Sent, is_named, is_owned, media_place, media_step, nothing_sealed, recipients, sealing_of, sent_each, sent_from, sent_media, sent_to, source_of, with_sealing}
+use Rattle.perc_distributor.specs.Forwarding.{Sealing, Sent, is_named, is_owned, media_index, media_step, nothing_sealed, recipients, sealing_of, sent_each, sent_from, sent_media, sent_to, source_of, with_sealing}
 use Rattle.perc_distributor.specs.Parts.{control_place}
 use Rattle.perc_distributor.proofs.PlaceLaws.{find_filter}
 use Rattle.perc_distributor.proofs.Sending.{control_by, sent_by}
@@ -34,7 +34,7 @@ control_to s e place octets (Ok at) = refl
 control_to s e place octets (Err f) = refl
 
 pub sent_is_to : (s : Sealing) (e : Entry) (place : ℕ) (change : Rewrite) (packet : Packet) → to_of (sent_to s e place change packet).0 ≡ e.association
-sent_is_to s e place change (Media from h inner block field) = media_to s e place change h inner block field (media_place s.streams h inner block field change)
+sent_is_to s e place change (Media from h inner block field) = media_to s e place change h inner block field (media_index s.streams h inner block field change)
 sent_is_to s e place change (Control from octets) =
     ap (λ (step : Sent × Sealing). to_of step.0) (control_by s e place octets) ∙ control_to s e place octets (control_place s.rtcp octets)
 

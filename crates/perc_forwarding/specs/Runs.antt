@@ -13,7 +13,7 @@ use Rattle.perc_keyset.specs.declared.Entry.{Entry}
 use Rattle.perc_keyset.specs.Set.{fold_ops}
 use Rattle.perc_distributor.specs.declared.fault.ForwardFault.{ForwardFault}
 use Rattle.perc_distributor.specs.Inbound.{Control, Media, Packet, in_set}
-use Rattle.perc_distributor.specs.Forwarding.{Dropped, Sealed, Sealing, Sent, media_place, media_step, recipients, sealing_of, sent_each, sent_to, with_sealing}
+use Rattle.perc_distributor.specs.Forwarding.{Dropped, Sealed, Sealing, Sent, media_index, media_step, recipients, sealing_of, sent_each, sent_to, with_sealing}
 use Rattle.perc_distributor.specs.Parts.{control_place}
 use Rattle.perc_distributor.specs.Laws.{datagram_of}
 
@@ -44,7 +44,7 @@ seal_of e kind ssrc (Ok index) = record { entry = e; kind = kind; ssrc = ssrc; i
 
 -- one packet for one entry
 abbrev pub seals_to : Sealing → Entry → Rewrite → Packet → List Seal
-seals_to s e change (Media from h inner block field) = seal_of e Srtp h.ssrc (media_place s.streams h inner block field change)
+seals_to s e change (Media from h inner block field) = seal_of e Srtp h.ssrc (media_index s.streams h inner block field change)
 seals_to s e change (Control from octets) = seal_of e Srtcp (rtcp_ssrc octets) (control_place s.rtcp octets)
 
 -- a packet for each of these entries in turn

@@ -16,7 +16,7 @@ use Rattle.perc_double.specs.Double.{double, relayed}
 use Rattle.perc_keyset.specs.declared.Entry.{Entry}
 use Rattle.perc_outer.specs.Streams.{with_index}
 use Rattle.perc_distributor.specs.Inbound.{Heard, Media, Packet, in_set, taken}
-use Rattle.perc_distributor.specs.Forwarding.{Sealed, Sealing, Sent, media_place, media_step, sealing_of, sent_each, sent_media, sent_to, with_sealing}
+use Rattle.perc_distributor.specs.Forwarding.{Sealed, Sealing, Sent, media_index, media_step, sealing_of, sent_each, sent_media, sent_to, with_sealing}
 use Rattle.perc_distributor.specs.declared.fault.InboundFault.{InboundFault}
 use Rattle.perc_script_line.specs.Script.{Changes, Forward}
 use Rattle.perc_script_line.specs.declared.reason.Reason.TheVariants as reason
@@ -52,8 +52,8 @@ output_for e index change h inner block field =
 
 -- Both outputs have their index.
 pub record HasPlaces (sealing : List Sealing) (a b : Entry) (h : Header) (inner : List ℕ) (block : Ohb) (field : Field) (change : Rewrite) (i j : ℕ) : Type 0 where
-  pub first : media_place (sealing_of sealing a.serial).streams h inner block field change ≡ Ok i
-  pub second : media_place (sealing_of (sealed_for sealing a h.ssrc i) b.serial).streams h inner block field change ≡ Ok j
+  pub first : media_index (sealing_of sealing a.serial).streams h inner block field change ≡ Ok i
+  pub second : media_index (sealing_of (sealed_for sealing a h.ssrc i) b.serial).streams h inner block field change ≡ Ok j
 
 two_sent : (sealing : List Sealing) (a b : Entry) (from : List ℕ) (h : Header) (inner : List ℕ) (block : Ohb) (field : Field) (change : Rewrite) (i j : ℕ)
     → HasPlaces sealing a b h inner block field change i j

@@ -16,7 +16,7 @@ use Rattle.perc_outgoing.proofs.Standing.{free_outer}
 use Rattle.perc_receiver.specs.Table.{Secret}
 use Rattle.perc_rtp.specs.Media.{Content}
 use Rattle.perc_distributor.specs.Inbound.{in_set}
-use Rattle.perc_distributor.specs.Forwarding.{Sealing, media_place, sealing_of}
+use Rattle.perc_distributor.specs.Forwarding.{Sealing, media_index, sealing_of}
 use Rattle.perc_script_line.specs.Script.{Changes, Deliver, Forward, Rekey, Script, Send, script_of, script_text}
 use Rattle.perc_script_line.specs.declared.reason.Reason.{Reason}
 use Rattle.perc_report_line.specs.Report.{Report}
@@ -132,7 +132,7 @@ pub place_at : (who : Who) (p : Parts) (may : MaySend who p) (streams : List Out
     → IsShift change → ((out_of who p).sealed ≡ [] → (out_of who p).sending.next ≡ 65400) → Takes streams (ssrc_of who) (out_of who p).sealed
     → let out = out_of who p in
     let c = content_at pt marker timestamp payload in
-    media_place streams (sent_header out c) (sent_inner out c) nothing_kept (field_spells out (own_entry who) may.sender).field change ≡ Ok (outer_index out + 7)
+    media_index streams (sent_header out c) (sent_inner out c) nothing_kept (field_spells out (own_entry who) may.sender).field change ≡ Ok (outer_index out + 7)
 place_at who p may streams pt marker timestamp payload change plain shift first takes =
     let out = out_of who p in
     let c = content_at pt marker timestamp payload in

@@ -18,7 +18,7 @@ use Rattle.perc_outer.specs.Streams.{OuterStream, accepted_of, is_full_for, is_o
 use Rattle.perc_outer.proofs.Finding.{any_found, length-with_held, length-with_new}
 use Rattle.perc_outer.proofs.Outer.{accepted_past, accepted_with, room_with}
 use Rattle.perc_distributor.specs.Inbound.{Heard, heard_of, in_set, nothing_heard, with_heard}
-use Rattle.perc_distributor.specs.Forwarding.{Sealing, as_forwarded, media_place, most_octets, nothing_sealed, sealing_of, with_sealing}
+use Rattle.perc_distributor.specs.Forwarding.{Sealing, as_forwarded, media_index, most_octets, nothing_sealed, sealing_of, with_sealing}
 use Rattle.perc_distributor.specs.declared.fault.ForwardFault.{ForwardFault}
 use Rattle.perc_distributor.specs.declared.fault.ForwardFault.TheVariants as fault
 use Rattle.perc_distributor.proofs.PlaceLaws.{find_filter, found_past, found_with}
@@ -188,7 +188,7 @@ place_by false false found index a b is = is
 
 pub place_is : (streams : List OuterStream) (h : Header) (inner : List ℕ) (block : Ohb) (field : Field) (change : Rewrite) (index : ℕ) → is_full_for streams h.ssrc ≡ false
     → relayed_length h inner block change + length (spelling field) ≤ most_octets → tx_index (accepted_of streams h.ssrc) (relayed h change).seq ≡ Ok index
-    → media_place streams h inner block field change ≡ Ok index
+    → media_index streams h inner block field change ≡ Ok index
 place_is streams h inner block field change index room size free =
     place_by (is_full_for streams h.ssrc) (nat_lt most_octets (relayed_length h inner block change + length (spelling field))) (as_forwarded (tx_index (accepted_of streams h.ssrc) (relayed h change).seq)) index
     room (le-ltb most_octets (relayed_length h inner block change + length (spelling field)) size) (ap as_forwarded free)

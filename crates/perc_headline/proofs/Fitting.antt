@@ -55,7 +55,7 @@ use Rattle.perc_outgoing.specs.Sending.{IsSending, Outgoing, next_place, outer_i
 use Rattle.perc_distributor.specs.declared.fault.ForwardFault.{ForwardFault}
 use Rattle.perc_distributor.specs.declared.fault.InboundFault.{InboundFault}
 use Rattle.perc_distributor.specs.Inbound.{Control, Heard, Media, Packet, heard_of, in_set, taken, taken_control, taken_of, taken_reach}
-use Rattle.perc_distributor.specs.Forwarding.{Dropped, Sealed, Sealing, Sent, is_named, is_owned, media_place, media_step, recipients, sealing_of, sent_each, sent_from, sent_media, sent_to, source_of, with_sealing}
+use Rattle.perc_distributor.specs.Forwarding.{Dropped, Sealed, Sealing, Sent, is_named, is_owned, media_index, media_step, recipients, sealing_of, sent_each, sent_from, sent_media, sent_to, source_of, with_sealing}
 use Rattle.perc_word.specs.Word.{Also, AreSomeOctets, IsName}
 use Rattle.perc_word.proofs.Spelling.{bytes_from}
 use Rattle.perc_script_line.specs.Script.{AreChanges, By, Changes, Dropped as Taken, IsReplaced, IsScript, Options, Replaced, Send, extension_of, is_extension, is_pair}
@@ -421,7 +421,7 @@ control_out s e place octets false false masters all =
 
 to_out : (s : Sealing) (e : Entry) (place : ℕ) (change : Rewrite) (packet : Packet) → HasMasters e → IsRewrite change → PacketFits packet → OutputFits (sent_to s e place change packet).0
 to_out s e place change (Media from h inner block field) masters may fits =
-    media_out s e place change h inner block field (media_place s.streams h inner block field change) masters may fits
+    media_out s e place change h inner block field (media_index s.streams h inner block field change) masters may fits
 to_out s e place change (Control from octets) masters may fits = control_out s e place octets (nat_lt 1500 (length octets + 20)) (nat_le (2 ^ 31) s.rtcp) masters fits
 
 each_out : (entries : List Entry) (place : ℕ) (change : Rewrite) (packet : Packet) (sealing : List Sealing) → All HasMasters entries → IsRewrite change → PacketFits packet

@@ -27,7 +27,7 @@ use Rattle.perc_keyset.specs.Set.{entry_of, is_of}
 use Rattle.perc_keyset.specs.declared.Entry.{Entry}
 use Rattle.perc_ohb.specs.Rewriting.{Rewrite}
 use Rattle.perc_distributor.specs.Inbound.{Control, Heard, Media, Packet, heard_of, in_set, taken, taken_control, taken_of, taken_reach}
-use Rattle.perc_distributor.specs.Forwarding.{Dropped, Sealed, Sealing, Sent, is_named, is_owned, media_place, media_step, most_octets, recipients, sealing_of, sent_each, sent_from, sent_media, sent_to, source_of, with_sealing}
+use Rattle.perc_distributor.specs.Forwarding.{Dropped, Sealed, Sealing, Sent, is_named, is_owned, media_index, media_step, most_octets, recipients, sealing_of, sent_each, sent_from, sent_media, sent_to, source_of, with_sealing}
 use Rattle.perc_distributor.specs.declared.fault.ForwardFault.{ForwardFault}
 use Rattle.perc_distributor.specs.declared.fault.ForwardFault.TheVariants as fault
 use Rattle.perc_distributor.specs.declared.fault.InboundFault.{InboundFault}
@@ -85,7 +85,7 @@ media_stands s e place change h inner block field (Ok index) = refl
 
 output_stands : (s : Sealing) (e : Entry) (place : ℕ) (change : Rewrite) (packet : Packet) → place_of (sent_to s e place change packet).0 ≡ place
 output_stands s e place change (Media from h inner block field) =
-    media_stands s e place change h inner block field (media_place s.streams h inner block field change)
+    media_stands s e place change h inner block field (media_index s.streams h inner block field change)
 output_stands s e place change (Control from octets) =
     one_of_three place (nat_lt most_octets (length octets + 20)) (nat_le (2 ^ 31) s.rtcp) (Dropped place e.association fault.Room, s) (Dropped place e.association fault.RtcpSpent, s)
     (Sealed place e.association (sealed_rtcp (session_keys e.server Srtcp) s.rtcp octets), record s { rtcp = s.rtcp + 1 }) refl refl refl

@@ -18,7 +18,7 @@ use Rattle.perc_outgoing.specs.Sending.{Outgoing, sent_datagram, sent_field, sen
 use Rattle.perc_outgoing.specs.History.{HopByHop, Seal, inner_seal, outer_seal, rtcp_seal}
 use Rattle.perc_distributor.specs.declared.fault.ForwardFault.{ForwardFault}
 use Rattle.perc_distributor.specs.Inbound.{Control, Media, Packet, in_set}
-use Rattle.perc_distributor.specs.Forwarding.{Dropped, Sealed, Sealing, Sent, media_place, media_step, recipients, sealing_of, sent_each, sent_from, sent_media, sent_to, with_sealing}
+use Rattle.perc_distributor.specs.Forwarding.{Dropped, Sealed, Sealing, Sent, media_index, media_step, recipients, sealing_of, sent_each, sent_from, sent_media, sent_to, with_sealing}
 use Rattle.perc_headline.specs.Nonces.{AreSealedWith, IsSealedTwice, IsSealedWith, control_seals, hop_seal, media_seals, seals_each, seals_from, seals_to, step_seals}
 use Rattle.perc_headline.proofs.Sealing.{control_step}
 
@@ -84,7 +84,7 @@ control_so s e place octets false true = tt
 control_so s e place octets false false = (rtcp_with e.server s.rtcp octets, tt)
 
 to_so : (s : Sealing) (e : Entry) (place : ℕ) (change : Rewrite) (packet : Packet) → IsSealedSo (sent_to s e place change packet).0 (seals_to s e place change packet)
-to_so s e place change (Media from h inner o f) = media_so s e place change h inner o f (media_place s.streams h inner o f change)
+to_so s e place change (Media from h inner o f) = media_so s e place change h inner o f (media_index s.streams h inner o f change)
 to_so s e place change (Control from octets) = control_so s e place octets (nat_lt 1500 (length octets + 20)) (nat_le (2 ^ 31) s.rtcp)
 
 both_so : (outputs more : List Sent) (seals others : List Seal) → AreSealedWith outputs seals → AreSealedWith more others → AreSealedWith (outputs ++ more) (seals ++ others)

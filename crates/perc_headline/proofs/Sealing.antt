@@ -31,7 +31,7 @@ use Rattle.perc_outgoing.specs.History.{Seal}
 use Rattle.perc_distributor.specs.declared.fault.ForwardFault.{ForwardFault}
 use Rattle.perc_distributor.specs.declared.fault.ForwardFault.TheVariants as fault
 use Rattle.perc_distributor.specs.Inbound.{Control, Media, Packet, in_set}
-use Rattle.perc_distributor.specs.Forwarding.{Dropped, Sealed, Sealing, Sent, as_forwarded, is_named, is_owned, media_place, nothing_sealed, recipients, sealing_of, sent_control, sent_each, sent_media, sent_to, source_of, with_sealing}
+use Rattle.perc_distributor.specs.Forwarding.{Dropped, Sealed, Sealing, Sent, as_forwarded, is_named, is_owned, media_index, nothing_sealed, recipients, sealing_of, sent_control, sent_each, sent_media, sent_to, source_of, with_sealing}
 use Rattle.perc_headline.specs.Nonces.{control_seals, hop_seal, iv_of, media_seals, seals_each, seals_from, seals_to, step_seals}
 
 -- ---- what is kept of a serial
@@ -207,16 +207,16 @@ by_room false true found index is = absurd (cc)
 by_room false false found index is = forwarded_index found index is
 
 -- the index of a place is that of its stream
-place_index : (s : Sealing) (h : Header) (inner : List ℕ) (block : Ohb) (field : Field) (change : Rewrite) (index : ℕ) → media_place s.streams h inner block field change ≡ Ok index
+media_index_is : (s : Sealing) (h : Header) (inner : List ℕ) (block : Ohb) (field : Field) (change : Rewrite) (index : ℕ) → media_index s.streams h inner block field change ≡ Ok index
     → tx_index (accepted_of s.streams h.ssrc) (relayed h change).seq ≡ Ok index
-place_index s h inner block field change index is =
+media_index_is s h inner block field change index is =
     by_room (is_full_for s.streams h.ssrc) (nat_lt 1500 (relayed_length h inner block change + length (spelling field))) (tx_index (accepted_of s.streams h.ssrc) (relayed h change).seq) index is
 
 media_made : (s : Sealing) (e : Entry) (place : ℕ) (change : Rewrite) (h : Header) (inner : List ℕ) (block : Ohb) (field : Field) (at : Result ℕ ForwardFault) → h.ssrc < 2 ^ 32
-    → media_place s.streams h inner block field change ≡ at → Seals s (sent_media s e place change h inner block field at).1 e (media_seals e h.ssrc at)
+    → media_index s.streams h inner block field change ≡ at → Seals s (sent_media s e place change h inner block field at).1 e (media_seals e h.ssrc at)
 media_made s e place change h inner block field (Err f) ssrc is = nothing s e
 media_made s e place change h inner block field (Ok index) ssrc is =
-    let free = place_index s h inner block field change index is in record {
+    let free = media_index_is s h inner block field change index is in record {
       serial = refl;
       keeps = keeps_media s h.ssrc index;
       are = record {
@@ -260,7 +260,7 @@ PacketFits (Control from octets) = AreOctets octets
 
 -- What one output seals, where it isn't dropped, is new.
 pub to_seals : (s : Sealing) (e : Entry) (place : ℕ) (change : Rewrite) (packet : Packet) → PacketFits packet → Seals s (sent_to s e place change packet).1 e (seals_to s e place change packet)
-to_seals s e place change (Media from h inner block field) fits = media_made s e place change h inner block field (media_place s.streams h inner block field change) fits.header_is.ssrc refl
+to_seals s e place change (Media from h inner block field) fits = media_made s e place change h inner block field (media_index s.streams h inner block field change) fits.header_is.ssrc refl
 to_seals s e place change (Control from octets) fits = control_made s e place octets (nat_lt 1500 (length octets + 20)) (nat_le (2 ^ 31) s.rtcp) refl
 
 pub step_serial : (sealing : List Sealing) (e : Entry) (place : ℕ) (change : Rewrite) (packet : Packet) → PacketFits packet
@@ -287,7 +287,7 @@ control_served set s e octets (Sealed place to sealed) there = one_served set e 
 control_served set s e octets (Dropped place to f) there = All-nil (IsServed set)
 
 to_served : (set : List Entry) (s : Sealing) (e : Entry) (place : ℕ) (change : Rewrite) (packet : Packet) → Contains set e → All (IsServed set) (seals_to s e place change packet)
-to_served set s e place change (Media from h inner block field) there = media_served set e h.ssrc (media_place s.streams h inner block field change) there
+to_served set s e place change (Media from h inner block field) there = media_served set e h.ssrc (media_index s.streams h inner block field change) there
 to_served set s e place change (Control from octets) there = control_served set s e octets (sent_control s e place octets).0 there
 
 each_served : (set entries : List Entry) (place : ℕ) (change : Rewrite) (packet : Packet) (sealing : List Sealing) → All (Contains set) entries

@@ -12,7 +12,7 @@ use Rattle.perc_srtp.specs.Sealed.{iv, rtcp_iv, rtcp_ssrc}
 use Rattle.perc_keyset.specs.declared.Entry.{Entry}
 use Rattle.perc_outgoing.specs.History.{HopByHop, Seal, inner_seal, outer_seal, rtcp_seal}
 use Rattle.perc_distributor.specs.Inbound.{Control, Media, Packet, in_set}
-use Rattle.perc_distributor.specs.Forwarding.{Dropped, Sealed, Sealing, Sent, media_place, recipients, sealing_of, sent_control, sent_each, sent_to, with_sealing}
+use Rattle.perc_distributor.specs.Forwarding.{Dropped, Sealed, Sealing, Sent, media_index, recipients, sealing_of, sent_control, sent_each, sent_to, with_sealing}
 use Rattle.perc_distributor.specs.declared.fault.ForwardFault.{ForwardFault}
 use Rattle.perc_script_line.specs.Script.{Changes, Script, Nothing, Conference, Ekt, Join, Leave, Grant, Rekey, Send, Rtcp, Inject, Alter, Graft, Reseal, Forward, Deliver}
 use Rattle.perc_run.specs.State.{Member, State, member_named}
@@ -49,7 +49,7 @@ control_seals s e octets (Sealed place to sealed) = hop_seal e Srtcp (rtcp_ssrc 
 control_seals s e octets (Dropped place to f) = []
 
 abbrev pub seals_to : Sealing → Entry → ℕ → Rewrite → Packet → List Seal
-seals_to s e place change (Media from h inner block field) = media_seals e h.ssrc (media_place s.streams h inner block field change)
+seals_to s e place change (Media from h inner block field) = media_seals e h.ssrc (media_index s.streams h inner block field change)
 seals_to s e place change (Control from octets) = control_seals s e octets (sent_control s e place octets).0
 
 -- ---- a batch

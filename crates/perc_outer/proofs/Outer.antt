@@ -11,7 +11,7 @@ use Rattle.perc_rtp.specs.Reading.{packet_of}
 use Rattle.perc_rtp.specs.declared.head.RtpFault.{RtpFault}
 use Rattle.perc_rtp.proofs.PacketLaws.{packet_read, read_packet}
 use Rattle.perc_srtp.specs.Sealed.{sealed_body}
-use Rattle.perc_srtp.specs.Streams.{rx_index, rx_opened, rx_place}
+use Rattle.perc_srtp.specs.Streams.{rx_index, rx_opened, opening_index}
 use Rattle.perc_srtp.specs.declared.streams.RxFault.{RxFault}
 use Rattle.perc_srtp.proofs.PacketLaws.{rx_once}
 use Rattle.perc_srtp.proofs.Streaming.{rx_opens_as_sealed, rx_sealed_opens}
@@ -129,7 +129,7 @@ refusing_ok (Ok o) index body is =
 refusing_ok (Err fault) index body is = absurd (cc)
 
 shut_full : (keys : KeyAndSalt) (streams : List OuterStream) (h : Header) (rest : List ℕ) (index : ℕ) (body : List ℕ) (place : Result ℕ RxFault)
-    → rx_place (accepted_of streams h.ssrc) h.seq (length rest) ≡ place → is_full_for streams h.ssrc ≡ true → opened_packet keys streams h rest ≡ Ok (index, body) → ⊥
+    → opening_index (accepted_of streams h.ssrc) h.seq (length rest) ≡ place → is_full_for streams h.ssrc ≡ true → opened_packet keys streams h rest ≡ Ok (index, body) → ⊥
 unfolding opened_packet
 shut_full keys streams h rest index body (Err fault) place full opens =
     let shut : opened_packet keys streams h rest ≡ Err (packet_refusal fault) = rw place refl in
@@ -141,7 +141,7 @@ shut_full keys streams h rest index body (Ok at) place full opens =
 opened_room : (keys : KeyAndSalt) (streams : List OuterStream) (h : Header) (rest : List ℕ) (index : ℕ) (body : List ℕ) (full : Bool) → is_full_for streams h.ssrc ≡ full
     → opened_packet keys streams h rest ≡ Ok (index, body) → OpensAs keys streams h rest index body
 opened_room keys streams h rest index body true is opens =
-    absurd (shut_full keys streams h rest index body (rx_place (accepted_of streams h.ssrc) h.seq (length rest)) refl is opens)
+    absurd (shut_full keys streams h rest index body (opening_index (accepted_of streams h.ssrc) h.seq (length rest)) refl is opens)
 opened_room keys streams h rest index body false is opens =
     let rx = refusing_ok (rx_opened keys (accepted_of streams h.ssrc) h rest) index body (sym (opened_by keys streams h rest is) ∙ opens) in
     let was = rx_opens_as_sealed keys (accepted_of streams h.ssrc) h rest index body rx in

@@ -12,10 +12,10 @@ use Rattle.perc_window.specs.Replay.{StandsFor as WindowStandsFor}
 use Rattle.perc_window.proofs.IndexLaws.{nearest_first}
 use Rattle.perc_srtp.specs.Ends.{Stream}
 use Rattle.perc_srtp.specs.Sealed.{unsealed_body}
-use Rattle.perc_srtp.specs.Streams.{opened_at, rx_index, rx_opened, rx_place}
+use Rattle.perc_srtp.specs.Streams.{opened_at, rx_index, rx_opened, opening_index}
 use Rattle.perc_srtp.specs.declared.streams.RxFault.{RxFault}
 use Rattle.perc_srtp.specs.declared.streams.RxFault.TheVariants as rx
-use Rattle.perc_srtp.proofs.Streaming.{rx_by_tag, rx_place_by_index, rx_place_short, rx_refused}
+use Rattle.perc_srtp.proofs.Streaming.{rx_by_tag, opening_by_index, opening_short, rx_refused}
 use Rattle.perc_outer.specs.declared.fault.OuterFault.{OuterFault}
 use Rattle.perc_outer.specs.declared.fault.OuterFault.TheVariants.{OuterShort, OuterTag, StreamLimit}
 use Rattle.perc_outer.specs.Streams.{OuterStream, accepted_of, is_full_for, is_of, with_index}
@@ -110,7 +110,7 @@ refusing (Err fault) = Err (packet_refusal fault)
 
 pub opened_short : (keys : KeyAndSalt) (streams : List OuterStream) (h : Header) (rest : List ℕ) → length rest < 16 → opened_packet keys streams h rest ≡ Err OuterShort
 unfolding opened_packet
-opened_short keys streams h rest short = rw (rx_place_short (accepted_of streams h.ssrc) h.seq (length rest) short) refl
+opened_short keys streams h rest short = rw (opening_short (accepted_of streams h.ssrc) h.seq (length rest) short) refl
 
 first_index : (seq : ℕ) → rx_index [] seq ≡ Ok seq
 first_index seq = rw (nearest_first seq) refl
@@ -121,33 +121,33 @@ pub opened_full : (keys : KeyAndSalt) (streams : List OuterStream) (h : Header) 
 unfolding opened_packet
 opened_full keys streams h rest long new full =
     let first : accepted_of streams h.ssrc ≡ [] = ap (λ (o : Option OuterStream). option_map_or (λ s. s.accepted) o []) new in
-    let place : rx_place (accepted_of streams h.ssrc) h.seq (length rest) ≡ Ok h.seq =
-    rx_place_by_index (accepted_of streams h.ssrc) h.seq (length rest) long ∙ ap (λ (before : List ℕ). rx_index before h.seq) first ∙ first_index h.seq in
+    let place : opening_index (accepted_of streams h.ssrc) h.seq (length rest) ≡ Ok h.seq =
+    opening_by_index (accepted_of streams h.ssrc) h.seq (length rest) long ∙ ap (λ (before : List ℕ). rx_index before h.seq) first ∙ first_index h.seq in
     rw place (rw full refl)
 
 opened_tagless : (keys : KeyAndSalt) (streams : List OuterStream) (h : Header) (rest : List ℕ) (index : ℕ) → is_full_for streams h.ssrc ≡ false
-    → rx_place (accepted_of streams h.ssrc) h.seq (length rest) ≡ Ok index → unsealed_body keys index h rest ≡ None → opened_packet keys streams h rest ≡ Err OuterTag
+    → opening_index (accepted_of streams h.ssrc) h.seq (length rest) ≡ Ok index → unsealed_body keys index h rest ≡ None → opened_packet keys streams h rest ≡ Err OuterTag
 unfolding opened_packet
 opened_tagless keys streams h rest index room place none = rw place (rw room (rw none refl))
 
 opened_tagged : (keys : KeyAndSalt) (streams : List OuterStream) (h : Header) (rest : List ℕ) (index : ℕ) (body : List ℕ) → is_full_for streams h.ssrc ≡ false
-    → rx_place (accepted_of streams h.ssrc) h.seq (length rest) ≡ Ok index → unsealed_body keys index h rest ≡ Some body → opened_packet keys streams h rest ≡ Ok (index, body)
+    → opening_index (accepted_of streams h.ssrc) h.seq (length rest) ≡ Ok index → unsealed_body keys index h rest ≡ Some body → opened_packet keys streams h rest ≡ Ok (index, body)
 unfolding opened_packet
 opened_tagged keys streams h rest index body room place some = rw place (rw room (rw some refl))
 
 opened_placeless : (keys : KeyAndSalt) (streams : List OuterStream) (h : Header) (rest : List ℕ) (fault : RxFault)
-    → rx_place (accepted_of streams h.ssrc) h.seq (length rest) ≡ Err fault → opened_packet keys streams h rest ≡ Err (packet_refusal fault)
+    → opening_index (accepted_of streams h.ssrc) h.seq (length rest) ≡ Err fault → opened_packet keys streams h rest ≡ Err (packet_refusal fault)
 unfolding opened_packet
 opened_placeless keys streams h rest fault place = rw place refl
 
 by_body : (keys : KeyAndSalt) (streams : List OuterStream) (h : Header) (rest : List ℕ) (index : ℕ) (body : Option (List ℕ)) → is_full_for streams h.ssrc ≡ false
-    → rx_place (accepted_of streams h.ssrc) h.seq (length rest) ≡ Ok index → unsealed_body keys index h rest ≡ body
+    → opening_index (accepted_of streams h.ssrc) h.seq (length rest) ≡ Ok index → unsealed_body keys index h rest ≡ body
     → opened_packet keys streams h rest ≡ refusing (opened_at rx.Tag index body)
 by_body keys streams h rest index None room place is = opened_tagless keys streams h rest index room place is
 by_body keys streams h rest index (Some body) room place is = opened_tagged keys streams h rest index body room place is
 
 by_place : (keys : KeyAndSalt) (streams : List OuterStream) (h : Header) (rest : List ℕ) (place : Result ℕ RxFault) → is_full_for streams h.ssrc ≡ false
-    → rx_place (accepted_of streams h.ssrc) h.seq (length rest) ≡ place → opened_packet keys streams h rest ≡ refusing (rx_opened keys (accepted_of streams h.ssrc) h rest)
+    → opening_index (accepted_of streams h.ssrc) h.seq (length rest) ≡ place → opened_packet keys streams h rest ≡ refusing (rx_opened keys (accepted_of streams h.ssrc) h rest)
 by_place keys streams h rest (Err fault) room is =
     opened_placeless keys streams h rest fault is ∙ sym (ap refusing (rx_refused keys (accepted_of streams h.ssrc) h rest fault is))
 by_place keys streams h rest (Ok index) room is =
@@ -157,4 +157,4 @@ by_place keys streams h rest (Ok index) room is =
 -- Where there is room, it opens as in its stream.
 pub opened_by : (keys : KeyAndSalt) (streams : List OuterStream) (h : Header) (rest : List ℕ) → is_full_for streams h.ssrc ≡ false
     → opened_packet keys streams h rest ≡ refusing (rx_opened keys (accepted_of streams h.ssrc) h rest)
-opened_by keys streams h rest room = by_place keys streams h rest (rx_place (accepted_of streams h.ssrc) h.seq (length rest)) room refl
+opened_by keys streams h rest room = by_place keys streams h rest (opening_index (accepted_of streams h.ssrc) h.seq (length rest)) room refl

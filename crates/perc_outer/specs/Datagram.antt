@@ -14,7 +14,7 @@ use Rattle.perc_ohb.specs.declared.block.OhbFault.{OhbFault}
 use Rattle.perc_ekt.specs.Field.{Field, field_of}
 use Rattle.perc_ekt.specs.declared.field.FieldFault.{FieldFault}
 use Rattle.perc_ekt.specs.declared.field.FieldFault.TheVariants as ekt
-use Rattle.perc_srtp.specs.Streams.{rx_place}
+use Rattle.perc_srtp.specs.Streams.{opening_index}
 use Rattle.perc_srtp.specs.Sealed.{unsealed_body}
 use Rattle.perc_srtp.specs.declared.streams.RxFault.{RxFault}
 use Rattle.perc_srtp.specs.declared.streams.RxFault.TheVariants as rx
@@ -55,7 +55,7 @@ is_own own ssrc = option_map_or (λ s. s == ssrc) own false
 -- The outer index and what stands behind the header of the opened packet, or why it isn't opened: too short for a tag, no fresh
 -- index, no room for its stream, or the tag.
 unfoldable pub opened_packet : KeyAndSalt → List OuterStream → Header → List ℕ → Result (ℕ × List ℕ) OuterFault
-opened_packet keys streams h rest = at (rx_place (accepted_of streams h.ssrc) h.seq (length rest)) where
+opened_packet keys streams h rest = at (opening_index (accepted_of streams h.ssrc) h.seq (length rest)) where
   with_body : ℕ → Option (List ℕ) → Result (ℕ × List ℕ) OuterFault
   with_body index None = Err OuterTag
   with_body index (Some body) = Ok (index, body)

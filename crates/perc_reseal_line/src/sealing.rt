@@ -77,11 +77,11 @@ fn index_of(packet: &[u8], roc: u32) -> u64
     ensures value { (h : Header) (rest : List ℕ) → IsPacket h rest packet.now → result ≡ roc * 65536 + h.seq }
 {
     let head = RtpHead::read(packet).unwrap();
-    place_of(roc, head.seq)
+    numbered(roc, head.seq)
 }
 
 // The index of a sequence number under a roll-over counter.
-fn place_of(roc: u32, seq: u16) -> u64
+fn numbered(roc: u32, seq: u16) -> u64
     ensures below { result < 2 ^ 48 }
     ensures value { result ≡ roc * 65536 + seq }
 {

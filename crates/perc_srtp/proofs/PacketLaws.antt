@@ -85,8 +85,8 @@ tx_first seq = tx_at [] seq seq (nearest_first seq) (freshness_first seq)
 -- ---- IVs
 
 -- what the salt is added to
-abbrev place : ℕ → ℕ → List ℕ
-place ssrc index = 0 ∷ 0 ∷ (big_bytes 4 ssrc ++ big_bytes 4 (index / 65536) ++ big_bytes 2 (index % 65536))
+abbrev unsalted_iv : ℕ → ℕ → List ℕ
+unsalted_iv ssrc index = 0 ∷ 0 ∷ (big_bytes 4 ssrc ++ big_bytes 4 (index / 65536) ++ big_bytes 2 (index % 65536))
 
 xor_twice : (s x : ℕ) → bit_xor s (bit_xor s x) ≡ x
 xor_twice s x = sym (xor_assoc s s x) ∙ ap (λ (z : ℕ). bit_xor z x) (xor_self s) ∙ xor_zero_l x
@@ -108,49 +108,49 @@ salted_twice salt octets long =
     ∙ ap (λ (x : ℕ). bit_xor (get_or salt k 0) x) (salted_at salt octets k (omega arith))
     ∙ xor_twice (get_or salt k 0) (get_or octets k 0))
 
-place_ssrc : (ssrc index : ℕ) → ssrc < 2 ^ 32 → big_number 4 (drop 2 (place ssrc index)) ≡ ssrc
-place_ssrc ssrc index fits = big_number-reads_back 4 ssrc (big_bytes 4 (index / 65536) ++ big_bytes 2 (index % 65536)) fits
+unsalted_ssrc : (ssrc index : ℕ) → ssrc < 2 ^ 32 → big_number 4 (drop 2 (unsalted_iv ssrc index)) ≡ ssrc
+unsalted_ssrc ssrc index fits = big_number-reads_back 4 ssrc (big_bytes 4 (index / 65536) ++ big_bytes 2 (index % 65536)) fits
 
-place_roll_over : (ssrc index : ℕ) → index < 2 ^ 48 → big_number 4 (drop 6 (place ssrc index)) ≡ index / 65536
-place_roll_over ssrc index fits = big_number-reads_back 4 (index / 65536) (big_bytes 2 (index % 65536)) (omega arith)
+unsalted_roll_over : (ssrc index : ℕ) → index < 2 ^ 48 → big_number 4 (drop 6 (unsalted_iv ssrc index)) ≡ index / 65536
+unsalted_roll_over ssrc index fits = big_number-reads_back 4 (index / 65536) (big_bytes 2 (index % 65536)) (omega arith)
 
-place_seq : (ssrc index : ℕ) → big_number 2 (drop 10 (place ssrc index)) ≡ index % 65536
-place_seq ssrc index = big_number-reads_back 2 (index % 65536) [] (omega arith)
+unsalted_seq : (ssrc index : ℕ) → big_number 2 (drop 10 (unsalted_iv ssrc index)) ≡ index % 65536
+unsalted_seq ssrc index = big_number-reads_back 2 (index % 65536) [] (omega arith)
 
 -- Packets with other SSRCs or other indices have other IVs under a salt.
 pub iv_injective : (salt : List ℕ) (ssrc other index next : ℕ) → ssrc < 2 ^ 32 → other < 2 ^ 32 → index < 2 ^ 48 → next < 2 ^ 48
     → iv salt ssrc index ≡ iv salt other next → (ssrc ≡ other) × (index ≡ next)
 unfolding iv
 iv_injective salt ssrc other index next fits_ssrc fits_other fits_index fits_next is =
-    let same : place ssrc index ≡ place other next =
-    sym (salted_twice salt (place ssrc index) refl) ∙ ap (salted salt) is ∙ salted_twice salt (place other next) refl in
+    let same : unsalted_iv ssrc index ≡ unsalted_iv other next =
+    sym (salted_twice salt (unsalted_iv ssrc index) refl) ∙ ap (salted salt) is ∙ salted_twice salt (unsalted_iv other next) refl in
     let roll_overs : index / 65536 ≡ next / 65536 =
-    sym (place_roll_over ssrc index fits_index) ∙ ap (λ (xs : List ℕ). big_number 4 (drop 6 xs)) same ∙ place_roll_over other next fits_next in
+    sym (unsalted_roll_over ssrc index fits_index) ∙ ap (λ (xs : List ℕ). big_number 4 (drop 6 xs)) same ∙ unsalted_roll_over other next fits_next in
     let seqs : index % 65536 ≡ next % 65536 =
-    sym (place_seq ssrc index) ∙ ap (λ (xs : List ℕ). big_number 2 (drop 10 xs)) same ∙ place_seq other next in (
-      sym (place_ssrc ssrc index fits_ssrc) ∙ ap (λ (xs : List ℕ). big_number 4 (drop 2 xs)) same ∙ place_ssrc other next fits_other,
+    sym (unsalted_seq ssrc index) ∙ ap (λ (xs : List ℕ). big_number 2 (drop 10 xs)) same ∙ unsalted_seq other next in (
+      sym (unsalted_ssrc ssrc index fits_ssrc) ∙ ap (λ (xs : List ℕ). big_number 4 (drop 2 xs)) same ∙ unsalted_ssrc other next fits_other,
       omega arith,
     )
 
 -- the same of an RTCP packet
-abbrev rtcp_place : ℕ → ℕ → List ℕ
-rtcp_place ssrc index = 0 ∷ 0 ∷ (big_bytes 4 ssrc ++ 0 ∷ 0 ∷ big_bytes 4 index)
+abbrev unsalted_rtcp_iv : ℕ → ℕ → List ℕ
+unsalted_rtcp_iv ssrc index = 0 ∷ 0 ∷ (big_bytes 4 ssrc ++ 0 ∷ 0 ∷ big_bytes 4 index)
 
-rtcp_place_ssrc : (ssrc index : ℕ) → ssrc < 2 ^ 32 → big_number 4 (drop 2 (rtcp_place ssrc index)) ≡ ssrc
-rtcp_place_ssrc ssrc index fits = big_number-reads_back 4 ssrc (0 ∷ 0 ∷ big_bytes 4 index) fits
+unsalted_rtcp_ssrc : (ssrc index : ℕ) → ssrc < 2 ^ 32 → big_number 4 (drop 2 (unsalted_rtcp_iv ssrc index)) ≡ ssrc
+unsalted_rtcp_ssrc ssrc index fits = big_number-reads_back 4 ssrc (0 ∷ 0 ∷ big_bytes 4 index) fits
 
-rtcp_place_index : (ssrc index : ℕ) → index < 2 ^ 31 → big_number 4 (drop 8 (rtcp_place ssrc index)) ≡ index
-rtcp_place_index ssrc index fits = big_number-reads_back 4 index [] (omega arith)
+unsalted_rtcp_index : (ssrc index : ℕ) → index < 2 ^ 31 → big_number 4 (drop 8 (unsalted_rtcp_iv ssrc index)) ≡ index
+unsalted_rtcp_index ssrc index fits = big_number-reads_back 4 index [] (omega arith)
 
 -- RTCP packets with other SSRCs or other indices have other IVs under a salt.
 pub rtcp_iv_injective : (salt : List ℕ) (ssrc other index next : ℕ) → ssrc < 2 ^ 32 → other < 2 ^ 32 → index < 2 ^ 31 → next < 2 ^ 31
     → rtcp_iv salt ssrc index ≡ rtcp_iv salt other next → (ssrc ≡ other) × (index ≡ next)
 unfolding rtcp_iv
 rtcp_iv_injective salt ssrc other index next fits_ssrc fits_other fits_index fits_next is =
-    let same : rtcp_place ssrc index ≡ rtcp_place other next =
-    sym (salted_twice salt (rtcp_place ssrc index) refl) ∙ ap (salted salt) is ∙ salted_twice salt (rtcp_place other next) refl in (
-      sym (rtcp_place_ssrc ssrc index fits_ssrc) ∙ ap (λ (xs : List ℕ). big_number 4 (drop 2 xs)) same ∙ rtcp_place_ssrc other next fits_other,
-      sym (rtcp_place_index ssrc index fits_index) ∙ ap (λ (xs : List ℕ). big_number 4 (drop 8 xs)) same ∙ rtcp_place_index other next fits_next,
+    let same : unsalted_rtcp_iv ssrc index ≡ unsalted_rtcp_iv other next =
+    sym (salted_twice salt (unsalted_rtcp_iv ssrc index) refl) ∙ ap (salted salt) is ∙ salted_twice salt (unsalted_rtcp_iv other next) refl in (
+      sym (unsalted_rtcp_ssrc ssrc index fits_ssrc) ∙ ap (λ (xs : List ℕ). big_number 4 (drop 2 xs)) same ∙ unsalted_rtcp_ssrc other next fits_other,
+      sym (unsalted_rtcp_index ssrc index fits_index) ∙ ap (λ (xs : List ℕ). big_number 4 (drop 8 xs)) same ∙ unsalted_rtcp_index other next fits_next,
     )
 
 -- ---- octets
@@ -187,18 +187,18 @@ salted_below salt octets p q k =
 -- An IV is 12 octets.
 pub length-iv : (salt : List ℕ) (ssrc index : ℕ) → length (iv salt ssrc index) ≡ 12
 unfolding iv
-length-iv salt ssrc index = length-salted salt (place ssrc index)
+length-iv salt ssrc index = length-salted salt (unsalted_iv ssrc index)
 
 pub length-rtcp_iv : (salt : List ℕ) (ssrc index : ℕ) → length (rtcp_iv salt ssrc index) ≡ 12
 unfolding rtcp_iv
-length-rtcp_iv salt ssrc index = length-salted salt (rtcp_place ssrc index)
+length-rtcp_iv salt ssrc index = length-salted salt (unsalted_rtcp_iv ssrc index)
 
 pub iv_octets : (salt : List ℕ) (ssrc index : ℕ) → ((k : ℕ) → get_or salt k 0 < 256) → (k : ℕ) → get_or (iv salt ssrc index) k 0 < 256
 unfolding iv
 iv_octets salt ssrc index p =
     let numbers : List ℕ = big_bytes 4 ssrc ++ big_bytes 4 (index / 65536) ++ big_bytes 2 (index % 65536) in
     let front = below_append (big_bytes 4 ssrc) (big_bytes 4 (index / 65536)) (number_below 4 ssrc) (number_below 4 (index / 65536)) in
-    salted_below salt (place ssrc index) p
+    salted_below salt (unsalted_iv ssrc index) p
     (below_cons 0 (0 ∷ numbers) (omega arith) (below_cons 0 numbers (omega arith)
     (below_append (big_bytes 4 ssrc ++ big_bytes 4 (index / 65536)) (big_bytes 2 (index % 65536)) front (number_below 2 (index % 65536)))))
 
@@ -207,7 +207,7 @@ unfolding rtcp_iv
 rtcp_iv_octets salt ssrc index p =
     let zeros = below_cons 0 (0 ∷ big_bytes 4 index) (omega arith) (below_cons 0 (big_bytes 4 index) (omega arith) (number_below 4 index)) in
     let numbers : List ℕ = big_bytes 4 ssrc ++ 0 ∷ 0 ∷ big_bytes 4 index in
-    salted_below salt (rtcp_place ssrc index) p
+    salted_below salt (unsalted_rtcp_iv ssrc index) p
     (below_cons 0 (0 ∷ numbers) (omega arith) (below_cons 0 numbers (omega arith)
     (below_append (big_bytes 4 ssrc) (0 ∷ 0 ∷ big_bytes 4 index) (number_below 4 ssrc) zeros)))
 

@@ -32,8 +32,8 @@ tx_index before seq = at (nearest (greatest before) seq) where
   at (Some index) = taken index (freshness before index)
 
 -- the same of a packet of `len` octets in room for `room`: the tag of 16 octets has to fit
-abbrev pub tx_place : List ℕ → ℕ → ℕ → ℕ → Result ℕ TxFault
-tx_place before seq len room = if nat_lt room (len + 16) then Err tx.Room else tx_index before seq
+abbrev pub sealing_index : List ℕ → ℕ → ℕ → ℕ → Result ℕ TxFault
+sealing_index before seq len room = if nat_lt room (len + 16) then Err tx.Room else tx_index before seq
 
 -- ---- opening
 
@@ -50,8 +50,8 @@ rx_index before seq = at (nearest (greatest before) seq) where
   at (Some index) = taken index (freshness before index)
 
 -- the same of a packet with a body of this length: it has a tag of 16 octets
-abbrev pub rx_place : List ℕ → ℕ → ℕ → Result ℕ RxFault
-rx_place before seq body = if nat_lt body 16 then Err rx.Short else rx_index before seq
+abbrev pub opening_index : List ℕ → ℕ → ℕ → Result ℕ RxFault
+opening_index before seq body = if nat_lt body 16 then Err rx.Short else rx_index before seq
 
 -- what opens at an index, with the index
 abbrev pub opened_at : {F : Type 0} → F → ℕ → Option (List ℕ) → Result (ℕ × List ℕ) F
@@ -60,7 +60,7 @@ opened_at wrong_tag index found = ok_or (option_map (λ octets. (index, octets))
 -- Behind these accepted indices, what a packet with this header and this rest is opened to: its index and its body, or the
 -- first refusal.
 unfoldable pub rx_opened : KeyAndSalt → List ℕ → Header → List ℕ → Result (ℕ × List ℕ) RxFault
-rx_opened keys before h rest = at (rx_place before h.seq (length rest)) where
+rx_opened keys before h rest = at (opening_index before h.seq (length rest)) where
   at : Result ℕ RxFault → Result (ℕ × List ℕ) RxFault
   at (Err fault) = Err fault
   at (Ok index) = opened_at rx.Tag index (unsealed_body keys index h rest)
@@ -73,8 +73,8 @@ end_word packet = big_number 4 (index_word packet)
 
 -- the index that a sealed RTCP packet may be opened at behind these, or why it isn't: it has 8 octets, a tag of 16 and a
 -- word of 4; its version is 2; and the bit E is set
-abbrev pub rtcp_place : List ℕ → List ℕ → Result ℕ RtcpFault
-rtcp_place before packet =
+abbrev pub rtcp_opening_index : List ℕ → List ℕ → Result ℕ RtcpFault
+rtcp_opening_index before packet =
     if nat_lt (length packet) 28 then Err rtcp.Short
     else (if not (version packet == 2) then Err rtcp.Version
     else (if nat_lt (end_word packet) (2 ^ 31) then Err rtcp.Clear else taken (end_word packet - 2 ^ 31) (freshness before (end_word packet - 2 ^ 31)))) where
@@ -85,7 +85,7 @@ rtcp_place before packet =
 
 -- the same of a sealed RTCP packet: its index and the packet that was sealed, or the first refusal
 unfoldable pub rtcp_opened : KeyAndSalt → List ℕ → List ℕ → Result (ℕ × List ℕ) RtcpFault
-rtcp_opened keys before packet = at (rtcp_place before packet) where
+rtcp_opened keys before packet = at (rtcp_opening_index before packet) where
   at : Result ℕ RtcpFault → Result (ℕ × List ℕ) RtcpFault
   at (Err fault) = Err fault
   at (Ok index) = opened_at rtcp.Tag index (unsealed_rtcp keys index packet)

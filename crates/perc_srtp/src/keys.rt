@@ -45,7 +45,7 @@ pub fn iv(salt: &[u8; 12], ssrc: u32, index: u64) -> [u8; 12]
 {
     let mut octets = [0; 12];
     let (roll_over, seq) = ((index / 65536) as u32, (index % 65536) as u16);
-    write_place(ssrc, roll_over, seq, &mut octets[2..]);
+    write_unsalted(ssrc, roll_over, seq, &mut octets[2..]);
     salted(salt, octets)
 }
 
@@ -56,12 +56,12 @@ pub fn rtcp_iv(salt: &[u8; 12], ssrc: u32, index: u32) -> [u8; 12]
     ensures { result ≡ spec.rtcp_iv salt.now ssrc index }
 {
     let mut octets = [0; 12];
-    write_rtcp_place(ssrc, index, &mut octets[2..]);
+    write_unsalted_rtcp(ssrc, index, &mut octets[2..]);
     salted(salt, octets)
 }
 
 // Writes the SSRC, the roll-over counter and the sequence number.
-fn write_place(ssrc: u32, roll_over: u32, seq: u16, out: &mut [u8])
+fn write_unsalted(ssrc: u32, roll_over: u32, seq: u16, out: &mut [u8])
     requires { length out.old ≡ 10 }
     ensures { out.new ≡ big_bytes 4 ssrc ++ big_bytes 4 roll_over ++ big_bytes 2 seq }
 {
@@ -71,7 +71,7 @@ fn write_place(ssrc: u32, roll_over: u32, seq: u16, out: &mut [u8])
 }
 
 // Writes the SSRC, two zero octets and an RTCP index.
-fn write_rtcp_place(ssrc: u32, index: u32, out: &mut [u8])
+fn write_unsalted_rtcp(ssrc: u32, index: u32, out: &mut [u8])
     requires { length out.old ≡ 10 }
     ensures { out.new ≡ big_bytes 4 ssrc ++ 0 ∷ 0 ∷ big_bytes 4 index }
 {

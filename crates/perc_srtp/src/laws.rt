@@ -7,7 +7,7 @@ ghost use Rattle.perc_window.specs.Index.{IsNearest, nearest};
 ghost use Rattle.perc_window.specs.Replay.{freshness, greatest, has};
 ghost use Rattle.perc_window.specs.declared.window.Freshness.TheVariants.{Fresh};
 ghost use Rattle.perc_srtp.specs.Sealed.{iv, rtcp_iv, sealed, sealed_body, sealed_rtcp, unsealed_body, unsealed_rtcp};
-ghost use Rattle.perc_srtp.specs.Streams.{rtcp_opened, rtcp_place, rx_index, rx_opened, tx_index};
+ghost use Rattle.perc_srtp.specs.Streams.{rtcp_opened, rtcp_opening_index, rx_index, rx_opened, tx_index};
 
 /// The index at which a packet is sealed is none of those sealed before, and the index at which one is opened is none of
 /// those accepted before.
@@ -80,7 +80,7 @@ pub fn opening()
         → (rx_opened keys before h rest ≡ Ok (index, body)) ↔ ((rx_index before h.seq ≡ Ok index) × (rest ≡ sealed_body keys index h body)) }
     ensures rtcp { (keys : KeyAndSalt) (before packet : List ℕ) (index : ℕ) (plain : List ℕ)
         → (rtcp_opened keys before packet ≡ Ok (index, plain))
-        ↔ ((rtcp_place before packet ≡ Ok index) × (packet ≡ sealed_rtcp keys index plain) × (8 ≤ length plain)) }
+        ↔ ((rtcp_opening_index before packet ≡ Ok index) × (packet ≡ sealed_rtcp keys index plain) × (8 ≤ length plain)) }
     ensures rtcp_fresh { (keys : KeyAndSalt) (before : List ℕ) (index : ℕ) (plain : List ℕ) → 8 ≤ length plain → version plain ≡ 2 → index < 2 ^ 31
         → freshness before index ≡ Fresh → rtcp_opened keys before (sealed_rtcp keys index plain) ≡ Ok (index, plain) }
 {}

@@ -3,7 +3,7 @@ ghost use Rattle.std.specs.Prelude.{◌≡◌, ℕ, ◌+◌, ◌^◌, ◌<◌, �
 ghost use Rattle.perc_rtp.specs.Header.{Header, IsPacket, spelling};
 ghost use Rattle.perc_window.specs.Replay.{StandsFor, freshness_at};
 ghost use Rattle.perc_srtp.specs.Sealed.{BeginsWith, sealed};
-ghost use Rattle.perc_srtp.specs.Streams.{rx_index, rx_opened, tx_index, tx_place};
+ghost use Rattle.perc_srtp.specs.Streams.{rx_index, rx_opened, tx_index, sealing_index};
 
 use super::{Keys, seal_at, unseal_at};
 use perc_gcm::{TAG_LEN, TagMismatch};
@@ -77,7 +77,7 @@ impl TxStream {
         requires reads { (h : Header) × (body : List ℕ) × IsPacket h body (take len packet.old) × (h.ssrc ≡ self.old.ssrc) }
         ensures answer { (before : List ℕ) (h : Header) (body : List ℕ) → StandsFor self.old.window before
             → IsPacket h body (take len packet.old)
-            → MatchResult (tx_place before h.seq len (length packet.old))
+            → MatchResult (sealing_index before h.seq len (length packet.old))
             (λ index. (result ≡ Ok (len + 16))
             × (packet.new ≡ sealed keys.now index h body ++ drop (len + 16) packet.old)
             × StandsFor self.new.window (index ∷ before))

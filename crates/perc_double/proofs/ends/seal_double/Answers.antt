@@ -4,7 +4,7 @@ use Rattle.std.proofs.lemmas.Result.{MatchResult-weaker, err_from_is_err_and}
 use Rattle.perc_rtp.specs.Header.{spelling}
 use Rattle.perc_srtp.specs.Streams.{tx_index}
 use Rattle.perc_double.specs.Double.{double, inner, nothing_kept, opened}
-use Rattle.perc_double.proofs.Answering.{tx_place_by_index}
+use Rattle.perc_double.proofs.Answering.{sealing_by_index}
 use Rattle.perc_double.proofs.Building.{after_tag}
 use Rattle.perc_double.proofs.ends.seal_double.Goals as goal
 
@@ -24,7 +24,7 @@ returns-in_err-end-clause-answer c =
     (λ before h body stands is.
     let rest : List ℕ = opened (inner c.args.inner.now c.args.index h body) nothing_kept in
     let packet = c.seal_inner-end.ensures.reads h body is in
-    let told = rw (tx_place_by_index before h.seq c.seal_inner-end.result (length c.seal_inner-end.new.packet) (omega arith)) at (c.in_err-end.ensures.answer before h rest stands packet) in
+    let told = rw (sealing_by_index before h.seq c.seal_inner-end.result (length c.seal_inner-end.new.packet) (omega arith)) at (c.in_err-end.ensures.answer before h rest stands packet) in
     MatchResult-weaker (tx_index before h.seq) told (λ at t. absurd (let e = t.0 in cc)) (λ fault t. (ap Err p.2 ∙ t.0, refl, t.2)))
 
 pub returns-clause-answer : goal.returns-clause-answer
@@ -32,7 +32,7 @@ returns-clause-answer c = λ before h body stands is.
     let rest : List ℕ = opened (inner c.args.inner.now c.args.index h body) nothing_kept in
     let sealed = c.seal_inner-end.ensures.sealed h body is in
     let packet = c.seal_inner-end.ensures.reads h body is in
-    let told = rw (tx_place_by_index before h.seq c.seal_inner-end.result (length c.seal_inner-end.new.packet) (omega arith)) at (c.in_ok-end.ensures.answer before h rest stands packet) in
+    let told = rw (sealing_by_index before h.seq c.seal_inner-end.result (length c.seal_inner-end.new.packet) (omega arith)) at (c.in_ok-end.ensures.answer before h rest stands packet) in
     let long : length (spelling h ++ rest) ≡ c.seal_inner-end.result =
     omega (arith, ap length sealed, length-append (spelling h ++ rest) (drop (c.args.len + 17) c.args.packet.now), length-drop (c.args.len + 17) c.args.packet.now) in
     let behind = after_tag (spelling h ++ rest) c.args.packet.now c.seal_inner-end.new.packet c.args.len c.seal_inner-end.result c.seal_inner-end.ensures.len long sealed in

@@ -2,7 +2,7 @@ use Rattle.std.proofs.Common.{◌≡◌, ℕ, ◌+◌, ◌≤◌, length, Ok, sy
 use Rattle.perc_srtp.specs.Streams.{tx_index}
 use Rattle.perc_ohb.specs.Rewriting.{block_after, rewrite_of}
 use Rattle.perc_double.specs.Double.{as_relayed, double, opened, relayed, relayed_length}
-use Rattle.perc_double.proofs.Answering.{front_sealed, next_taken, relay_place_by_index, told_relayed, tx_place_by_index}
+use Rattle.perc_double.proofs.Answering.{front_sealed, next_taken, relaying_by_index, told_relayed, sealing_by_index}
 use Rattle.perc_double.proofs.RelayLaws.{IsHeader-relayed, restored_relayed}
 use Rattle.perc_double.proofs.relaying.relay.Goals as goal
 
@@ -25,10 +25,10 @@ returns-in-Ok-clause-answer c = λ before h octets o stands is.
     let made = c.in-Some.ensures h octets o is in
     let fits : n + 16 ≤ 1500 = made.0 in
     let len_is : n + 16 ≡ relayed_length h octets o change = made.1 in
-    let by_index = tx_place_by_index before (relayed h change).seq n (length c.write_relayed.new.out) (omega arith) in
+    let by_index = sealing_by_index before (relayed h change).seq n (length c.write_relayed.new.out) (omega arith) in
     let told = rw by_index at (c.in-Ok.ensures.answer before (relayed h change) (opened octets (block_after h o change)) stands made.2) in
     let packet = λ (at : ℕ). double c.args.outer.now at (relayed h change) octets (block_after h o change) in
-    rw (relay_place_by_index before h octets o change (omega arith))
+    rw (relaying_by_index before h octets o change (omega arith))
     (told_relayed (tx_index before (relayed h change).seq) told
     (λ at t.
     let sealed : c.in-Ok.len ≡ n + 16 = (let e = t.0 in cc) in
@@ -41,7 +41,7 @@ returns-in-Ok-clause-next c = λ before h octets o stands is.
     let change = rewrite_of c.args.change.now in
     let made = c.in-Some.ensures h octets o is in
     let fits : c.in-Some.len + 16 ≤ 1500 = made.0 in
-    let by_index = tx_place_by_index before (relayed h change).seq c.in-Some.len (length c.write_relayed.new.out) (omega arith) in
+    let by_index = sealing_by_index before (relayed h change).seq c.in-Some.len (length c.write_relayed.new.out) (omega arith) in
     let told = rw by_index at (c.in-Ok.ensures.answer before (relayed h change) (opened octets (block_after h o change)) stands made.2) in
     next_taken before h change _ _ told (λ f t. let refused = t.0 in cc)
 
@@ -58,9 +58,9 @@ returns-in-Err-clause-answer c = λ before h octets o stands is.
     let made = c.in-Some.ensures h octets o is in
     let fits : n + 16 ≤ 1500 = made.0 in
     let len_is : n + 16 ≡ relayed_length h octets o change = made.1 in
-    let by_index = tx_place_by_index before (relayed h change).seq n (length c.write_relayed.new.out) (omega arith) in
+    let by_index = sealing_by_index before (relayed h change).seq n (length c.write_relayed.new.out) (omega arith) in
     let told = rw by_index at (c.in-Err.ensures.answer before (relayed h change) (opened octets (block_after h o change)) stands made.2) in
-    rw (relay_place_by_index before h octets o change (omega arith))
+    rw (relaying_by_index before h octets o change (omega arith))
     (told_relayed (tx_index before (relayed h change).seq) told
     (λ at t. absurd (let no = t.0 in cc))
     (λ f g e t. (sym c.fault_of.ensures ∙ ap as_relayed t.0 ∙ e, t.2)))

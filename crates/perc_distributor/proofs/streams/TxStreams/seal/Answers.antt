@@ -6,7 +6,7 @@ use Rattle.perc_window.specs.Replay.{StandsFor as WindowStandsFor}
 use Rattle.perc_outer.specs.Streams.{accepted_of}
 use Rattle.perc_outer.specs.Places.{IsAt}
 use Rattle.perc_distributor.specs.Kept.{MediaOf}
-use Rattle.perc_distributor.specs.Parts.{media_datagram, stream_place}
+use Rattle.perc_distributor.specs.Parts.{media_datagram, stream_index}
 use Rattle.perc_distributor.proofs.StreamsLaws.{forwarded_more, goes_on, goes_on_kept, goes_on_place, one_header}
 use Rattle.perc_distributor.proofs.streams.TxStreams.seal.Goals as goal
 
@@ -32,6 +32,6 @@ returns-in-Ok-clause-sealed c = λ before from h inner o field stands is.
     let still : c.seal_in.new.stream.ssrc ≡ h.ssrc = c.seal_in.ensures.ssrc ∙ ap (λ (k : Stream). k.ssrc) c.index_mut.ensures.value ∙ g.at.has_ssrc s in
     let told = c.seal_in.ensures.sealed (accepted_of before h.ssrc) from h inner o field g.window is in
     rw (goes_on_place items before h c.in-Ok.place s inner o field (rewrite_of c.args.change.now) g)
-    (forwarded_more (stream_place (accepted_of before h.ssrc) h inner o field (rewrite_of c.args.change.now)) (media_datagram c.args.keys.now h inner o field (rewrite_of c.args.change.now))
+    (forwarded_more (stream_index (accepted_of before h.ssrc) h inner o field (rewrite_of c.args.change.now)) (media_datagram c.args.keys.now h inner o field (rewrite_of c.args.change.now))
     (λ at. WindowStandsFor c.seal_in.new.stream.window (at ∷ accepted_of before h.ssrc)) _ c.seal_in.result c.seal_in.new.out told
     (goes_on_kept items before h c.in-Ok.place s c.seal_in.new.stream g still))

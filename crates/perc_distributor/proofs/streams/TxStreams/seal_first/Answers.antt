@@ -10,7 +10,7 @@ use Rattle.perc_outer.specs.Kept.{StandsFor}
 use Rattle.perc_outer.specs.Places.{IsGapFor}
 use Rattle.perc_outer.proofs.Finding.{rise-insert}
 use Rattle.perc_distributor.specs.Kept.{MediaOf}
-use Rattle.perc_distributor.specs.Parts.{media_datagram, stream_place}
+use Rattle.perc_distributor.specs.Parts.{media_datagram, stream_index}
 use Rattle.perc_distributor.proofs.StreamsLaws.{begins, begins_full, begins_kept, begins_place, forwarded_more, forwarded_not, one_header, place_full}
 use Rattle.perc_distributor.proofs.streams.TxStreams.seal_first.Goals as goal
 
@@ -36,7 +36,7 @@ returns-in_err-len-clause-sealed c = λ before from h inner o field stands is.
     let few : length items < 256 = omega arith in
     let told = c.in_err-len.ensures.sealed [] from h inner o field c.new-stream.ensures.window is in
     rw (begins_place items before h c.args.place inner o field (rewrite_of c.args.change.now) b few, e.1, e.2)
-    (forwarded_not (stream_place [] h inner o field (rewrite_of c.args.change.now)) (media_datagram c.args.keys.now h inner o field (rewrite_of c.args.change.now))
+    (forwarded_not (stream_index [] h inner o field (rewrite_of c.args.change.now)) (media_datagram c.args.keys.now h inner o field (rewrite_of c.args.change.now))
     (λ at. WindowStandsFor c.seal_in.new.stream.window (at ∷ [])) (λ at. StandsFor c.args.self.now (with_index h.ssrc at before)) c.in_err-len.field-0.0 c.seal_in.new.out told)
 
 pub invariant_of-self : goal.invariant_of-self
@@ -62,6 +62,6 @@ returns-clause-sealed c = λ before from h inner o field stands is.
     c.seal_in.ensures.ssrc ∙ c.new-stream.ensures.ssrc ∙ sym c.requires.media.1 ∙ ap (λ (x : Header). x.ssrc) (sym one) in
     let told = c.in_ok-len.ensures.sealed [] from h inner o field c.new-stream.ensures.window is in
     rw (begins_place items before h c.args.place inner o field (rewrite_of c.args.change.now) b few, c.keep.ensures.items)
-    (forwarded_more (stream_place [] h inner o field (rewrite_of c.args.change.now)) (media_datagram c.args.keys.now h inner o field (rewrite_of c.args.change.now))
+    (forwarded_more (stream_index [] h inner o field (rewrite_of c.args.change.now)) (media_datagram c.args.keys.now h inner o field (rewrite_of c.args.change.now))
     (λ at. WindowStandsFor c.seal_in.new.stream.window (at ∷ [])) _ (Ok c.in_ok-len.len) c.seal_in.new.out told
     (begins_kept items before h c.args.place c.seal_in.new.stream b few its))
