@@ -7,5 +7,4 @@ mod tests;
 mod top;
 mod write;
 
-pub use perc_replay::{Counts, ReplayEnd, replay};
 pub use top::{Status, run};

@@ -16,7 +16,7 @@ use perc_ohb::Change;
 use std::alloc::{AllocError, Global};
 
 /// How many datagrams a forward takes at most.
-pub const MOST_TAKEN: usize = 32;
+const MOST_TAKEN: usize = 32;
 
 /// The distributor: whom it forwards to, and what it keeps of what it opened and sealed. The rest is of the forward that is being
 /// done.

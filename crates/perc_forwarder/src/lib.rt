@@ -6,7 +6,7 @@ mod distributor;
 mod reasons;
 mod words;
 
-pub use distributor::{Distributor, MOST_TAKEN, Taking};
+pub use distributor::{Distributor, Taking};
 pub use reasons::{
     control_refusal, denial_of, inbound_refusal, loss_of, media_refusal, outer_refusal,
 };

@@ -24,17 +24,20 @@ pub fn unsealing()
 
 /// A tag over additional data and a cipher text comes from one IV under a key. It does nothing: its contract is the law.
 pub fn one_iv()
-    ensures { (key iv other aad cipher : List ℕ) → IsKey key → length iv ≡ 12 → length other ≡ 12 → ((k : ℕ) → slice_index iv k < 256) → ((k : ℕ) → slice_index other k < 256) → tag key iv aad cipher ≡ tag key other aad cipher → iv ≡ other }
+    ensures { (key iv other aad cipher : List ℕ) → IsKey key → length iv ≡ 12 → length other ≡ 12 → ((k : ℕ) → slice_index iv k < 256)
+        → ((k : ℕ) → slice_index other k < 256) → tag key iv aad cipher ≡ tag key other aad cipher → iv ≡ other }
 {}
 
 /// A cipher text is as many octets as its text, and a tag is 16. It does nothing: its contract is the law.
 pub fn octets()
     ensures text_length { (key iv text : List ℕ) → length (ciphertext key iv text) ≡ length text }
-    ensures text_octets { (key iv text : List ℕ) → IsKey key → length iv ≡ 12 → ((k : ℕ) → slice_index iv k < 256) → ((k : ℕ) → slice_index text k < 256) → (k : ℕ) → slice_index (ciphertext key iv text) k < 256 }
+    ensures text_octets { (key iv text : List ℕ) → IsKey key → length iv ≡ 12 → ((k : ℕ) → slice_index iv k < 256)
+        → ((k : ℕ) → slice_index text k < 256) → (k : ℕ) → slice_index (ciphertext key iv text) k < 256 }
     ensures tag_length { (key iv aad cipher : List ℕ) → length (tag key iv aad cipher) ≡ 16 }
     ensures tag_octets { (key iv aad cipher : List ℕ) (k : ℕ) → slice_index (tag key iv aad cipher) k < 256 }
     ensures sealed_length { (key iv aad text : List ℕ) → length (sealed_text key iv aad text) ≡ length text + 16 }
-    ensures sealed_octets { (key iv aad text : List ℕ) → IsKey key → length iv ≡ 12 → ((k : ℕ) → slice_index iv k < 256) → ((k : ℕ) → slice_index text k < 256) → (k : ℕ) → slice_index (sealed_text key iv aad text) k < 256 }
+    ensures sealed_octets { (key iv aad text : List ℕ) → IsKey key → length iv ≡ 12 → ((k : ℕ) → slice_index iv k < 256)
+        → ((k : ℕ) → slice_index text k < 256) → (k : ℕ) → slice_index (sealed_text key iv aad text) k < 256 }
 {}
 
 /// Products of elements are elements, associative and commutative, with 1 neutral, and linear. It does nothing: its

@@ -177,7 +177,13 @@ all_more (x ∷ xs) ys a b = (a.0, all_more xs ys a.1 b)
 
 pub round_is : (r : ℕ) → r < 1000 → AllByRecursion IsLine (round_lines r)
 round_is r few =
-    let roles = are_roles r in (send_line r few, (forward_line (roles_of r).speaker (3 * r + 1) (r % 2 == 1) (omega arith) roles.speaker, (deliver_line (3 * r + 2) (roles_of r).first (omega arith) roles.first, (deliver_line (3 * r + 3) (roles_of r).second (omega arith) roles.second, all_more (repeat_of r) (rekey_of r) (if_due (r % 5 == 4) (Deliver (3 * r + 2) (roles_of r).first) (deliver_line (3 * r + 2) (roles_of r).first (omega arith) roles.first)) (if_due (r % 30 == 29) (Rekey (roles_of r).speaker (big_bytes 16 (1000 + r))) (rekey_line (roles_of r).speaker (1000 + r) roles.speaker))))))
+    let roles = are_roles r in
+    let forwarded = forward_line (roles_of r).speaker (3 * r + 1) (r % 2 == 1) (omega arith) roles.speaker in
+    let first = deliver_line (3 * r + 2) (roles_of r).first (omega arith) roles.first in
+    let second = deliver_line (3 * r + 3) (roles_of r).second (omega arith) roles.second in
+    let repeated = if_due (r % 5 == 4) (Deliver (3 * r + 2) (roles_of r).first) first in
+    let rekeyed = if_due (r % 30 == 29) (Rekey (roles_of r).speaker (big_bytes 16 (1000 + r))) (rekey_line (roles_of r).speaker (1000 + r) roles.speaker) in
+    (send_line r few, (forwarded, (first, (second, all_more (repeat_of r) (rekey_of r) repeated rekeyed))))
 
 rounds_are : (from count : ℕ) → from + count ≤ 1000 → AllByRecursion IsLine (flat_map round_lines (range_with_len from count))
 rounds_are from zero few = tt
@@ -195,8 +201,22 @@ join_line name ssrc octet few below role = record {
       shorter (100 + 6 * 101) longest _
       (short_joined 100 (codes "join")
       (name ∷ ssrc_text ssrc ∷ decimal 65400 ∷ encode_lower (replicate 28 (octet + 1)) ∷ encode_lower (replicate 28 (octet + 2)) ∷ encode_lower (replicate 16 (octet + 3)) ∷ [])
-      (record { size = omega arith; ink = refl })
-      (role.short, (word_of_octets (big_bytes 4 ssrc) (omega arith) (octets_of_number 4 ssrc), (word_of_number 65400 (omega arith), (key_word 28 (octet + 1) (omega arith) (omega arith), (key_word 28 (octet + 2) (omega arith) (omega arith), (key_word 16 (octet + 3) (omega arith) (omega arith), tt))))))) (omega arith);
+      (record { size = omega arith; ink = refl }) (
+        role.short,
+        (
+          word_of_octets (big_bytes 4 ssrc) (omega arith) (octets_of_number 4 ssrc),
+          (
+            word_of_number 65400 (omega arith),
+            (
+              key_word 28 (octet + 1) (omega arith) (omega arith),
+              (
+                key_word 28 (octet + 2) (omega arith) (omega arith),
+                (key_word 16 (octet + 3) (omega arith) (omega arith), tt),
+              ),
+            ),
+          ),
+        ),
+      )) (omega arith);
   said = (
     role.is_name,
     omega arith,
@@ -208,8 +228,28 @@ join_line name ssrc octet few below role = record {
   spells = refl;
 }
 
+head_line : IsLine (Conference Aes128)
+head_line = record { short = record { size = omega arith; ink = refl }; said = tt; spells = refl }
+
+ekt_line : IsLine (Ekt (replicate 16 1) (replicate 12 2))
+ekt_line = record {
+  short =
+      shorter (100 + 2 * 101) longest _
+      (short_joined 100 (codes "ekt") (encode_lower (replicate 16 1) ∷ encode_lower (replicate 12 2) ∷ []) (record { size = omega arith; ink = refl })
+      (key_word 16 1 (omega arith) (omega arith), (key_word 12 2 (omega arith) (omega arith), tt))) (omega arith);
+  said = (
+    record { fits = record { some = omega arith; octets = refl }; passes = refl },
+    record { fits = record { some = omega arith; octets = refl }; passes = refl },
+  );
+  spells = refl;
+}
+
 pub opening_is : AllByRecursion IsLine opening
-opening_is = (record { short = record { size = omega arith; ink = refl }; said = tt; spells = refl }, (record { short = shorter (100 + 2 * 101) longest _ (short_joined 100 (codes "ekt") (encode_lower (replicate 16 1) ∷ encode_lower (replicate 12 2) ∷ []) (record { size = omega arith; ink = refl }) (key_word 16 1 (omega arith) (omega arith), (key_word 12 2 (omega arith) (omega arith), tt))) (omega arith); said = (record { fits = record { some = omega arith; octets = refl }; passes = refl }, record { fits = record { some = omega arith; octets = refl }; passes = refl }); spells = refl }, (join_line (codes "Ann") 1 160 (omega arith) (omega arith) ann, (join_line (codes "Bob") 2 176 (omega arith) (omega arith) bob, (join_line (codes "Cat") 3 192 (omega arith) (omega arith) cat, tt)))))
+opening_is =
+    let joined_ann = join_line (codes "Ann") 1 160 (omega arith) (omega arith) ann in
+    let joined_bob = join_line (codes "Bob") 2 176 (omega arith) (omega arith) bob in
+    let joined_cat = join_line (codes "Cat") 3 192 (omega arith) (omega arith) cat in
+    (head_line, (ekt_line, (joined_ann, (joined_bob, (joined_cat, tt)))))
 
 pub made_is : (rounds : ℕ) → rounds ≤ 1000 → AllByRecursion IsLine (made_lines rounds)
 made_is rounds few = all_more opening (flat_map round_lines (range_with_len 0 rounds)) opening_is (rounds_are 0 rounds (omega arith))

@@ -124,23 +124,40 @@ sealable kept o c place number ssrc len written st answer w = record {
   free = (free_outer o st.sound.outer (in_range kept o place st (is_place kept o place st answer))).free;
 }
 
+-- What a call made: the place that was answered, what is kept behind it, the inner session and its key, and the buffer as it was written,
+-- as it was sealed up to `end`, and with the field behind it up to `last`.
+pub record Made : Type 0 where
+  pub place : SendPlace
+  pub sending : Sending
+  pub outer : Stream
+  pub session : KeyAndSalt
+  pub key : List ℕ
+  pub number : ℕ
+  pub ssrc : ℕ
+  pub len : ℕ
+  pub end : ℕ
+  pub last : ℕ
+  pub written : List ℕ
+  pub sealed : List ℕ
+  pub out : List ℕ
+
 -- What was written, sealed and put behind it, from the place and the key that were answered.
-pub record IsBuilt (kept : Kept) (c : Content) (place : SendPlace) (sending : Sending) (outer : Stream) (session : KeyAndSalt) (key : List ℕ) (number ssrc len end last : ℕ) (written sealed out : List ℕ) : Type 0 where
-  pub answer : next_answer kept.sending ≡ Ok place
-  pub counted : sending ≡ after_packet kept.sending
-  pub key_is : option_map (λ (t : Taken). t.key) (newest sending.keys) ≡ Some key
-  pub session_is : session ≡ inner_keys (secret_in kept.granted) key
-  pub is_written : IsWritten kept c number ssrc len written
-  pub sealed_is : (h : Header) (body before : List ℕ) (at : ℕ) → IsSealable h body (take len written) kept.outer before at
-      → sealed ≡ double kept.media at h (inner session place.index h body) nothing_kept ++ drop (len + 33) written
-  pub window : (h : Header) (body before : List ℕ) (at : ℕ) → IsSealable h body (take len written) kept.outer before at
-      → WindowStandsFor outer.window (at ∷ before)
-  pub outer_ssrc : outer.ssrc ≡ kept.outer.ssrc
-  pub end_is : end ≡ len + 33
-  pub room : len + 33 ≤ 1500
-  pub all_written : length written ≡ 1500
-  pub all_sealed : length sealed ≡ 1500
-  pub put : take last out ≡ take end sealed ++ spelling (field_at place (secret_in kept.granted) key ssrc)
+pub record IsBuilt (kept : Kept) (c : Content) (m : Made) : Type 0 where
+  pub answer : next_answer kept.sending ≡ Ok m.place
+  pub counted : m.sending ≡ after_packet kept.sending
+  pub key_is : option_map (λ (t : Taken). t.key) (newest m.sending.keys) ≡ Some m.key
+  pub session_is : m.session ≡ inner_keys (secret_in kept.granted) m.key
+  pub is_written : IsWritten kept c m.number m.ssrc m.len m.written
+  pub sealed_is : (h : Header) (body before : List ℕ) (at : ℕ) → IsSealable h body (take m.len m.written) kept.outer before at
+      → m.sealed ≡ double kept.media at h (inner m.session m.place.index h body) nothing_kept ++ drop (m.len + 33) m.written
+  pub window : (h : Header) (body before : List ℕ) (at : ℕ) → IsSealable h body (take m.len m.written) kept.outer before at
+      → WindowStandsFor m.outer.window (at ∷ before)
+  pub outer_ssrc : m.outer.ssrc ≡ kept.outer.ssrc
+  pub end_is : m.end ≡ m.len + 33
+  pub room : m.len + 33 ≤ 1500
+  pub all_written : length m.written ≡ 1500
+  pub all_sealed : length m.sealed ≡ 1500
+  pub put : take m.last m.out ≡ take m.end m.sealed ++ spelling (field_at m.place (secret_in kept.granted) m.key m.ssrc)
 
 key_of : (kept : Kept) (o : Outgoing) (sending : Sending) (key : List ℕ) → StandsFor kept o → sending ≡ after_packet kept.sending
     → option_map (λ (t : Taken). t.key) (newest sending.keys) ≡ Some key → key ≡ (sending_key o).key
@@ -169,26 +186,27 @@ front whole written sealed end is room w s =
     let size : length whole ≡ end = omega (arith, ap length is, length-append whole (drop end written), length-drop end written) in
     ap (take end) is ∙ take_at whole (drop end written) end size
 
-pub built : (kept : Kept) (o : Outgoing) (c : Content) (place : SendPlace) (sending : Sending) (outer : Stream) (session : KeyAndSalt) (key : List ℕ) (number ssrc len end last : ℕ) (written sealed out : List ℕ)
-    → StandsFor kept o → IsBuilt kept c place sending outer session key number ssrc len end last written sealed out
-    → IsSentAs o c (record { len = last; index = place.index; spi = place.spi; epoch = place.epoch }) (record kept { sending = sending; outer = outer }) out
-built kept o c place sending outer session key number ssrc len end last written sealed out st b =
-    let p = is_place kept o place st b.answer in
+pub built : (kept : Kept) (o : Outgoing) (c : Content) (m : Made) → StandsFor kept o → IsBuilt kept c m
+    → IsSentAs o c (record { len = m.last; index = m.place.index; spi = m.place.spi; epoch = m.place.epoch })
+    (record kept { sending = m.sending; outer = m.outer }) m.out
+built kept o c m st b =
+    let p = is_place kept o m.place st b.answer in
     let h : Header = sent_header o c in
-    let key_same : key ≡ (sending_key o).key = key_of kept o sending key st b.counted b.key_is in
-    let free : IsSealable h (rest_of c) (take len written) kept.outer o.sealed (outer_index o) = sealable kept o c place number ssrc len written st b.answer b.is_written in
-    let whole : List ℕ = double kept.media (outer_index o) h (inner session place.index h (rest_of c)) nothing_kept in
-    let sealed_as : sealed ≡ whole ++ drop (len + 33) written = b.sealed_is h (rest_of c) o.sealed (outer_index o) free in
-    let whole_is : take end sealed ≡ whole =
-    ap (λ (n : ℕ). take n sealed) b.end_is ∙ front whole written sealed (len + 33) sealed_as b.room b.all_written b.all_sealed in
+    let key_same : m.key ≡ (sending_key o).key = key_of kept o m.sending m.key st b.counted b.key_is in
+    let free : IsSealable h (rest_of c) (take m.len m.written) kept.outer o.sealed (outer_index o) =
+    sealable kept o c m.place m.number m.ssrc m.len m.written st b.answer b.is_written in
+    let whole : List ℕ = double kept.media (outer_index o) h (inner m.session m.place.index h (rest_of c)) nothing_kept in
+    let sealed_as : m.sealed ≡ whole ++ drop (m.len + 33) m.written = b.sealed_is h (rest_of c) o.sealed (outer_index o) free in
+    let whole_is : take m.end m.sealed ≡ whole =
+    ap (λ (n : ℕ). take n m.sealed) b.end_is ∙ front whole m.written m.sealed (m.len + 33) sealed_as b.room b.all_written b.all_sealed in
     record {
       index = ap (λ (q : SendPlace). q.index) p.is;
       spi = ap (λ (q : SendPlace). q.spi) p.is;
       epoch = ap (λ (q : SendPlace). q.epoch) p.is;
       datagram =
           b.put
-          ∙ ap (λ (xs : List ℕ). xs ++ spelling (field_at place (secret_in kept.granted) key ssrc)) whole_is
-          ∙ as_sent kept o c place session key ssrc st p key_same b.session_is b.is_written.ssrc_is;
+          ∙ ap (λ (xs : List ℕ). xs ++ spelling (field_at m.place (secret_in kept.granted) m.key m.ssrc)) whole_is
+          ∙ as_sent kept o c m.place m.session m.key m.ssrc st p key_same b.session_is b.is_written.ssrc_is;
       kept_is =
-          sent_stands kept o sending outer st (in_range kept o place st p) b.counted b.outer_ssrc (b.window h (rest_of c) o.sealed (outer_index o) free);
+          sent_stands kept o m.sending m.outer st (in_range kept o m.place st p) b.counted b.outer_ssrc (b.window h (rest_of c) o.sealed (outer_index o) free);
     }

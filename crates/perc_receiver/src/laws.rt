@@ -10,13 +10,16 @@ ghost use Rattle.perc_receiver.specs.Calls.{AcceptedOnce, AreCalls, Call, IsAcce
 
 /// What the ciphers answer to a datagram that isn't foreign, the table answers.
 pub fn outcome_is_ideal()
-    ensures { (issued : List Secret) (table : Table) (r : Receiver) (datagram : List ℕ) → IsHolding issued r → IsRight issued table → is_foreign table r datagram ≡ false → outcome r datagram ≡ ideal table r datagram }
+    ensures { (issued : List Secret) (table : Table) (r : Receiver) (datagram : List ℕ) → IsHolding issued r → IsRight issued table
+        → is_foreign table r datagram ≡ false → outcome r datagram ≡ ideal table r datagram }
 {}
 
 /// Over any list of calls of a receiver in which no datagram is foreign, each packet that is accepted was sent, as it was
 /// sent, and none is accepted twice.
 pub fn accepted_once()
-    ensures { (table : Table) (ssrc : ℕ) (server : KeyAndSalt) (first : Secret) (calls : List Call) → IsSecret first → AreCalls table (started ssrc server first) calls → IsRight (secrets_of (started ssrc server first) calls (first ∷ [])) table → AcceptedOnce table (accepts (started ssrc server first) calls []) }
+    ensures { (table : Table) (ssrc : ℕ) (server : KeyAndSalt) (first : Secret) (calls : List Call) → IsSecret first
+        → AreCalls table (started ssrc server first) calls → IsRight (secrets_of (started ssrc server first) calls (first ∷ [])) table
+        → AcceptedOnce table (accepts (started ssrc server first) calls []) }
 {}
 
 /// Each call keeps that a receiver's contexts agree with what it accepted, whatever came before.
@@ -26,5 +29,6 @@ pub fn each_call()
 
 /// A genuine packet is accepted: as the row of the first fresh try that is one.
 pub fn genuine_accepted()
-    ensures { (issued : List Secret) (table : Table) (r : Receiver) (datagram : List ℕ) (o : Opened) (row : Row) → IsRight issued table → IsGenuine table r datagram o row → IsAcceptedAs table row (ideal table r datagram).0 }
+    ensures { (issued : List Secret) (table : Table) (r : Receiver) (datagram : List ℕ) (o : Opened) (row : Row) → IsRight issued table
+        → IsGenuine table r datagram o row → IsAcceptedAs table row (ideal table r datagram).0 }
 {}

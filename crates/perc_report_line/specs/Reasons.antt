@@ -93,7 +93,12 @@ refusal_number refusal.RtcpTag = None
 -- those without a number
 abbrev pub plain_refusals : List Refusal
 plain_refusals =
-    refusal.NotMedia ∷ refusal.NoField ∷ refusal.EktType ∷ refusal.EktLength ∷ refusal.RtpShort ∷ refusal.RtpVersion ∷ refusal.RtpExtension ∷ refusal.OwnStream ∷ refusal.OuterShort ∷ refusal.OuterOld ∷ refusal.OuterRepeated ∷ refusal.StreamLimit ∷ refusal.OuterTag ∷ refusal.OhbEmpty ∷ refusal.OhbReserved ∷ refusal.OhbMarker ∷ refusal.OhbShort ∷ refusal.OhbPt ∷ refusal.InnerShort ∷ refusal.Unwrap ∷ refusal.EktPlain ∷ refusal.KeyLimit ∷ refusal.NoContext ∷ refusal.InnerOld ∷ refusal.InnerRepeated ∷ refusal.InnerTag ∷ refusal.Padding ∷ refusal.RtcpShort ∷ refusal.RtcpVersion ∷ refusal.RtcpClear ∷ refusal.RtcpOld ∷ refusal.RtcpRepeated ∷ refusal.RtcpTag ∷ []
+    refusal.NotMedia ∷ refusal.NoField ∷ refusal.EktType ∷ refusal.EktLength ∷ refusal.RtpShort ∷ refusal.RtpVersion
+    ∷ refusal.RtpExtension ∷ refusal.OwnStream ∷ refusal.OuterShort ∷ refusal.OuterOld ∷ refusal.OuterRepeated ∷ refusal.StreamLimit
+    ∷ refusal.OuterTag ∷ refusal.OhbEmpty ∷ refusal.OhbReserved ∷ refusal.OhbMarker ∷ refusal.OhbShort ∷ refusal.OhbPt
+    ∷ refusal.InnerShort ∷ refusal.Unwrap ∷ refusal.EktPlain ∷ refusal.KeyLimit ∷ refusal.NoContext ∷ refusal.InnerOld
+    ∷ refusal.InnerRepeated ∷ refusal.InnerTag ∷ refusal.Padding ∷ refusal.RtcpShort ∷ refusal.RtcpVersion ∷ refusal.RtcpClear
+    ∷ refusal.RtcpOld ∷ refusal.RtcpRepeated ∷ refusal.RtcpTag ∷ []
 
 abbrev pub refusal_words : Refusal → List (List ℕ)
 refusal_words reason = refusal_text reason ∷ number_words (refusal_number reason)
@@ -104,7 +109,8 @@ plain_refusal_in word = text_in refusal_text plain_refusals word
 unfoldable pub refusal_in : List (List ℕ) → Option Refusal
 refusal_in words = do
   first ← first_of words
-  if bytes_eq first.0 (codes "spi-unknown") then word_then (number_in most_of_two) (λ number. ends (refusal.SpiUnknown number)) first.1 else (plain_refusal_in first.0 >>= λ reason. ends reason first.1)
+  if bytes_eq first.0 (codes "spi-unknown") then word_then (number_in most_of_two) (λ number. ends (refusal.SpiUnknown number)) first.1
+      else (plain_refusal_in first.0 >>= λ reason. ends reason first.1)
 
 -- The number, where there is one, has a spelling.
 abbrev pub IsRefusal : Refusal → Type 0
@@ -207,7 +213,9 @@ plain_loss_in word = text_in loss_text plain_losses word
 unfoldable pub loss_in : List (List ℕ) → Option Loss
 loss_in words = do
   first ← first_of words
-  if bytes_eq first.0 (codes "no-index") then word_then (number_in most_of_two) (λ number. ends (loss.NoIndex number)) first.1 else (if bytes_eq first.0 (codes "nonce-used") then word_then (number_in most_of_six) (λ number. ends (loss.NonceUsed number)) first.1 else (plain_loss_in first.0 >>= λ reason. ends reason first.1))
+  if bytes_eq first.0 (codes "no-index") then word_then (number_in most_of_two) (λ number. ends (loss.NoIndex number)) first.1
+      else (if bytes_eq first.0 (codes "nonce-used") then word_then (number_in most_of_six) (λ number. ends (loss.NonceUsed number)) first.1
+      else (plain_loss_in first.0 >>= λ reason. ends reason first.1))
 
 -- The number, where there is one, has a spelling.
 abbrev pub IsLoss : Loss → Type 0

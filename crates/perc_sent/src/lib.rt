@@ -4,4 +4,4 @@
 
 mod table;
 
-pub use table::{Question, Sent, Table};
+pub use table::{Sent, Table};

@@ -14,10 +14,10 @@ pub use name::Name;
 pub use next::{
     end, next_marker, next_octets, next_payload, next_payload_type, next_ssrc, next_u16, next_u32,
 };
-pub use numbers::{marker, number, payload_type, ssrc};
+pub use numbers::{marker, number, payload_type};
 pub use octets::Octets;
 pub use uuid_text::uuid;
-pub use words::{next_item, next_option, next_word, split_word};
+pub use words::{next_option, next_word};
 
 #[cfg(test)]
 mod tests;

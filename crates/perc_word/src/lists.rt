@@ -3,7 +3,9 @@ ghost use Rattle.std.specs.Prelude.{◌≡◌, is_some};
 ghost use Rattle.std.specs.Iterator.{YieldsFirst, item_count};
 ghost use Rattle.perc_word.specs.Word.{datagrams_in, ssrcs_in, names_in};
 
-use super::{Name, next_item, number, ssrc};
+use super::numbers::ssrc;
+use super::words::next_item;
+use super::{Name, number};
 use std::marker::Model;
 
 // The greatest number of a datagram.

@@ -4,7 +4,8 @@ ghost use Rattle.std.specs.Option.{option_map};
 ghost use Rattle.perc_word.specs.Word.{next_in, end_of, number_in, most_of_two, most_of_four, ssrc_in, octets_in, payload_in, payload_type_in, marker_in};
 ghost use Rattle.perc_word.specs.Left.{words_left, value_taken};
 
-use super::{Octets, marker, next_word, number, payload_type, ssrc};
+use super::numbers::ssrc;
+use super::{Octets, marker, next_word, number, payload_type};
 
 /// A number of two octets in decimal, and the words behind it.
 pub fn next_u16(words: Option<&[u8]>) -> Option<(u16, Option<&[u8]>)>

@@ -1,7 +1,8 @@
 // Words as the grammar gives them, worked out by hand.
+use super::numbers::ssrc;
 use super::{
     Datagrams, Name, Names, Octets, Ssrcs, marker, next_option, next_word, number, payload_type,
-    ssrc, uuid,
+    uuid,
 };
 use std::test::Fail;
 

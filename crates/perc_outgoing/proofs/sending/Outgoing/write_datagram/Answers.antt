@@ -5,7 +5,7 @@ use Rattle.perc_rtp.specs.Media.{content_of, rest_of}
 use Rattle.perc_sender.specs.Schedule.{Sending, Taken, after_packet, newest, next_answer}
 use Rattle.perc_outgoing.specs.Sending.{after_send, outer_index, sent_header}
 use Rattle.perc_outgoing.specs.Kept.{Kept, StandsFor}
-use Rattle.perc_outgoing.proofs.Datagrams.{IsBuilt, IsWritten, built, is_place, packet_fits, sealable, send_none}
+use Rattle.perc_outgoing.proofs.Datagrams.{IsBuilt, IsWritten, Made, built, is_place, packet_fits, sealable, send_none}
 use Rattle.perc_outgoing.proofs.sending.Outgoing.write_datagram.Goals as goal
 
 pub seal_next-end-requires-clause-room : goal.seal_next-end-requires-clause-room
@@ -51,7 +51,22 @@ invariant_of-self-2 c =
     let w = c.in-Ok.ensures.packet in
     let within : c.in-Ok.len ≤ length c.write_packet.new.out = omega (arith, w.0) in
     let fits = packet_fits m (c.next_index.result % 65536) c.ssrc-ssrc.result c.in-Ok.len c.write_packet.new.out c.in-Ok.ensures.fault w.1 within in
-    let b : IsBuilt kept m c.in-Ok-next.place c.next.new.self c.seal_next-end.new.tx c.inner_session-inner.result c.unwrap-key.result.now c.next_index.result c.ssrc-ssrc.result c.in-Ok.len c.seal_next-end.result c.put_field-len.result c.write_packet.new.out c.seal_next-end.new.packet c.put_field-len.new.out = record {
+    let made : Made = record {
+      place = c.in-Ok-next.place;
+      sending = c.next.new.self;
+      outer = c.seal_next-end.new.tx;
+      session = c.inner_session-inner.result;
+      key = c.unwrap-key.result.now;
+      number = c.next_index.result;
+      ssrc = c.ssrc-ssrc.result;
+      len = c.in-Ok.len;
+      end = c.seal_next-end.result;
+      last = c.put_field-len.result;
+      written = c.write_packet.new.out;
+      sealed = c.seal_next-end.new.packet;
+      out = c.put_field-len.new.out;
+    } in
+    let b : IsBuilt kept m made = record {
       answer = sym (c.in-Ok-next.ensures.answer ∙ ap next_answer c.deref_mut.ensures.value);
       counted = c.in-Ok-next.ensures.counted ∙ ap after_packet c.deref_mut.ensures.value;
       key_is = sym (key_is ∙ ap (λ (s : Sending). option_map (λ (t : Taken). t.key) (newest s.keys)) c.deref-3.ensures);
@@ -70,7 +85,7 @@ invariant_of-self-2 c =
       all_sealed = c.seal_next-end.array_long;
       put = c.put_field-len.ensures.put;
     } in
-    let sent = built kept is.0 m c.in-Ok-next.place c.next.new.self c.seal_next-end.new.tx c.inner_session-inner.result c.unwrap-key.result.now c.next_index.result c.ssrc-ssrc.result c.in-Ok.len c.seal_next-end.result c.put_field-len.result c.write_packet.new.out c.seal_next-end.new.packet c.put_field-len.new.out is.1 b in
+    let sent = built kept is.0 m made is.1 b in
     record { right = c.self.invariant.right; stands = (after_send is.0, sent.kept_is) }
 
 pub returns-clause-answer : goal.returns-clause-answer
@@ -83,7 +98,22 @@ returns-clause-answer c = λ o st.
     let w = c.in-Ok.ensures.packet in
     let within : c.in-Ok.len ≤ length c.write_packet.new.out = omega (arith, w.0) in
     let fits = packet_fits m (c.next_index.result % 65536) c.ssrc-ssrc.result c.in-Ok.len c.write_packet.new.out c.in-Ok.ensures.fault w.1 within in
-    let b : IsBuilt kept m c.in-Ok-next.place c.next.new.self c.seal_next-end.new.tx c.inner_session-inner.result c.unwrap-key.result.now c.next_index.result c.ssrc-ssrc.result c.in-Ok.len c.seal_next-end.result c.put_field-len.result c.write_packet.new.out c.seal_next-end.new.packet c.put_field-len.new.out = record {
+    let made : Made = record {
+      place = c.in-Ok-next.place;
+      sending = c.next.new.self;
+      outer = c.seal_next-end.new.tx;
+      session = c.inner_session-inner.result;
+      key = c.unwrap-key.result.now;
+      number = c.next_index.result;
+      ssrc = c.ssrc-ssrc.result;
+      len = c.in-Ok.len;
+      end = c.seal_next-end.result;
+      last = c.put_field-len.result;
+      written = c.write_packet.new.out;
+      sealed = c.seal_next-end.new.packet;
+      out = c.put_field-len.new.out;
+    } in
+    let b : IsBuilt kept m made = record {
       answer = sym (c.in-Ok-next.ensures.answer ∙ ap next_answer c.deref_mut.ensures.value);
       counted = c.in-Ok-next.ensures.counted ∙ ap after_packet c.deref_mut.ensures.value;
       key_is = sym (key_is ∙ ap (λ (s : Sending). option_map (λ (t : Taken). t.key) (newest s.keys)) c.deref-3.ensures);
@@ -104,4 +134,4 @@ returns-clause-answer c = λ o st.
     } in
     let place = is_place kept o c.in-Ok-next.place its b.answer in
     rw (send_none o m c.in-Ok.ensures.fault place.left)
-    (built kept o m c.in-Ok-next.place c.next.new.self c.seal_next-end.new.tx c.inner_session-inner.result c.unwrap-key.result.now c.next_index.result c.ssrc-ssrc.result c.in-Ok.len c.seal_next-end.result c.put_field-len.result c.write_packet.new.out c.seal_next-end.new.packet c.put_field-len.new.out its b)
+    (built kept o m made its b)
