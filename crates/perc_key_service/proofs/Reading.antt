@@ -2,10 +2,9 @@
 use Rattle.std.specs.List.{flat_map}
 use Rattle.std.specs.Option.{option_map}
 use Rattle.std.specs.Prelude.{Option, Some, None, is_some, min, Result, Ok, Err}
-use Rattle.std.proofs.Common.{◌≡◌, ℕ, ◌+◌, ◌*◌, ◌-◌, ◌<◌, ◌≤◌, ◌^◌, true, List, [], ◌∷◌, ◌++◌, length, take, inl, inr, refl, sym, ap, subst, ◌∙◌, append-nil, arith}
+use Rattle.std.proofs.Common.{◌≡◌, ℕ, suc, ◌+◌, ◌*◌, ◌-◌, ◌≤◌, ◌^◌, true, List, [], ◌∷◌, ◌++◌, length, take, inl, inr, refl, sym, ap, subst, ◌∙◌, append-nil, arith}
 use Rattle.std.proofs.Math.Seq.{take-length}
 use Rattle.std.proofs.lemmas.List.{length-append}
-use Rattle.std.proofs.lemmas.List.Elements.{All-nil, All-cons, All-head, All-tail}
 use Rattle.byteorder.specs.Endian.{big_bytes}
 use Rattle.perc_base.specs.Profile.{key_length, profile_number}
 use Rattle.perc_base.specs.declared.profile.Profile.TheVariants.{Aes128, Aes256}
@@ -19,7 +18,9 @@ use Rattle.perc_tunnel.specs.declared.decoder.TunnelFault.{TunnelFault}
 use Rattle.perc_tunnel.specs.declared.message.Message.{Message}
 use Rattle.perc_tunnel.specs.declared.message.MediaKeys.{MediaKeys}
 use Rattle.perc_tunnel.specs.Decoding.{Decoding, Decodes, IsFault, fed, fresh, taken}
-use Rattle.perc_tunnel.specs.Message.{TunnelMessage, TunneledDtls, AreOctets, IsHalf, IsMessage, body, counted, spelling, type_of}
+use Rattle.perc_octets.specs.Octets.{AreOctets}
+use Rattle.perc_octets.proofs.Octets.{AreOctets-cons, AreOctets-nil}
+use Rattle.perc_tunnel.specs.Message.{TunnelMessage, TunneledDtls, IsHalf, IsMessage, body, counted, spelling, type_of}
 use Rattle.perc_tunnel.specs.Told.{answered, content_of, keys_message}
 use Rattle.perc_tunnel.proofs.Streams.{no_part_begins, one_message}
 use Rattle.perc_keydist.specs.declared.record.ClearRecord.{ClearRecord}
@@ -57,15 +58,15 @@ module _ (m : TunnelMessage) (rest : List ℕ) (old new : Decoding) (holds : Hol
 -- ---- the octets of the parts
 
 all_left : (xs ys : List ℕ) → AreOctets (xs ++ ys) → AreOctets xs
-all_left [] ys all = All-nil (λ x. x < 256)
-all_left (x ∷ xs) ys all = All-cons (λ x. x < 256) x xs (All-head (λ x. x < 256) x (xs ++ ys) all) (all_left xs ys (All-tail (λ x. x < 256) x (xs ++ ys) all))
+all_left [] ys all = AreOctets-nil
+all_left (x ∷ xs) ys all = AreOctets-cons x xs (all 0) (all_left xs ys (λ k. all (suc k)))
 
 all_right : (xs ys : List ℕ) → AreOctets (xs ++ ys) → AreOctets ys
 all_right [] ys all = all
-all_right (x ∷ xs) ys all = all_right xs ys (All-tail (λ x. x < 256) x (xs ++ ys) all)
+all_right (x ∷ xs) ys all = all_right xs ys (λ k. all (suc k))
 
 behind_one : (x : ℕ) (xs : List ℕ) → AreOctets (x ∷ xs) → AreOctets xs
-behind_one x xs all = All-tail (λ x. x < 256) x xs all
+behind_one x xs all = λ k. all (suc k)
 
 body_octets : (m : TunnelMessage) → AreOctets (spelling m) → AreOctets (body m)
 unfolding spelling

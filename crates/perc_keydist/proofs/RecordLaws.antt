@@ -5,7 +5,7 @@ use Rattle.std.specs.Str.{bytes_eq}
 use Rattle.std.proofs.Common.{◌≡◌, ℕ, ◌+◌, ◌*◌, ◌^◌, ◌<◌, ◌≤◌, ◌⊎◌, ◌&&◌, Bool, true, false, cond, eqb, List, [], ◌++◌, length, take, drop, get_or, inl, inr, refl, sym, ap, subst, ◌∙◌, append_assoc, arith}
 use Rattle.std.proofs.lemmas.Bool.{cond-true, eqb-true, eq-eqb}
 use Rattle.std.proofs.lemmas.Bool.Decides.{nat_tests}
-use Rattle.std.proofs.lemmas.List.{take_at, drop_at, drop-drop, get_or_default, take_all, length-append, length-drop, length-take-le, take-append-drop, append-nil}
+use Rattle.std.proofs.lemmas.List.{take_at, drop_at, drop-drop, take_all, length-append, length-drop, length-take-le, take-append-drop, append-nil}
 use Rattle.std.proofs.lemmas.Slice.Eq.{bytes_eq-Decides}
 use Rattle.byteorder.specs.Endian.{big_bytes, big_number}
 use Rattle.byteorder.specs.Numbers.{big_number-reads_back}
@@ -20,7 +20,6 @@ use Rattle.perc_octets.proofs.Octets.{AreOctets-drop, AreOctets-take}
 use Rattle.perc_ekt.proofs.Octets.{two_spelled}
 use Rattle.perc_ekt.proofs.Records.{key-lengths, octets-length, record_reads, record_was_read}
 use Rattle.perc_tunnel.specs.Message.{IsHalf}
-use Rattle.perc_tunnel.specs.Message as tunnel
 use Rattle.perc_tunnel.proofs.Pieces.{behind_piece, piece_at}
 use Rattle.perc_keydist.specs.ClearRecord.{Record, Hello, Welcome, Renew, Leave, IsClear, alert, half_at, half_octets, handshake, hello_in, is_kind, record_in, renewal_in, spelling, welcome_in}
 
@@ -184,17 +183,14 @@ half_put : (n : ℕ) (d rest : List ℕ) → rest ≡ drop (n + 12) d → half_o
 half_put n d rest e =
     append_assoc (take n d) (take 12 (drop n d)) rest ∙ ap (λ ys. take n d ++ ys) (piece_at d n 12 (n + 12) rest refl e) ∙ take-append-drop n d
 
-all_of : (xs : List ℕ) → AreOctets xs → tunnel.AreOctets xs
-all_of xs octets k d below = subst (λ x. x < 256) (get_or_default xs k 0 d below) (octets k)
-
 half_right : (p : Profile) (d : List ℕ) → key_length p + 12 ≤ length d → AreOctets d → IsHalf p (half_at (key_length p) d)
 half_right p d room octets =
     let n = key_length p in
     record {
       key = length-take-le n d (omega arith);
       salt = length-take-le 12 (drop n d) (omega (arith, length-drop n d));
-      key_octets = all_of (take n d) (AreOctets-take n d octets);
-      salt_octets = all_of (take 12 (drop n d)) (AreOctets-take 12 (drop n d) (AreOctets-drop n d octets));
+      key_octets = AreOctets-take n d octets;
+      salt_octets = AreOctets-take 12 (drop n d) (AreOctets-drop n d octets);
     }
 
 welcome_only : (p : Profile) (xs : List ℕ) (r : Record) → AreOctets xs → take 6 xs ≡ handshake 2 → welcome_in (key_length p) (profile_number p) xs ≡ Some r

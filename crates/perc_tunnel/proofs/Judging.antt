@@ -4,7 +4,6 @@ use Rattle.std.proofs.Common.{cond, ◌&&◌, List, [], ◌∷◌, ◌++◌, len
 use Rattle.std.specs.List.{find}
 use Rattle.std.proofs.lemmas.Bool.{eqb-true, leb-true, cases_eq, and_parts}
 use Rattle.std.proofs.lemmas.List.{get_or-drop, take_rest}
-use Rattle.std.proofs.lemmas.List.Elements.{All-take, All-get_or, All-from_get_or}
 use Rattle.byteorder.specs.Endian.{big_bytes, big_number}
 use Rattle.perc_base.specs.declared.profile.Profile.TheVariants.{Aes128, Aes256}
 use Rattle.perc_tunnel.specs.declared.decoder.TunnelReason.{TunnelReason}
@@ -12,7 +11,8 @@ use Rattle.perc_tunnel.specs.declared.decoder.TunnelReason.TheVariants.{Kind, Le
 use Rattle.perc_tunnel.specs.declared.forms.Form.{Form}
 use Rattle.perc_tunnel.specs.declared.forms.Form.TheVariants.{Profiles, Version, Keys, Record, Ended}
 use Rattle.perc_tunnel.specs.declared.forms.Standing.TheVariants.{Whole, Fault}
-use Rattle.perc_tunnel.specs.Message.{AreOctets}
+use Rattle.perc_octets.specs.Octets.{AreOctets}
+use Rattle.perc_octets.proofs.Octets.{AreOctets-nil, AreOctets-take}
 use Rattle.perc_tunnel.specs.Stream.{IsPart, IsKind, IsLength, BeginsLength, HasReason}
 use Rattle.perc_tunnel.specs.Forms.{kind_of, Lengths, Exactly, AtLeast, OddFrom, IsAmong, is_among, lengths_of, HasLength, forms, form_at, HoldEach, fixed_in_body, Suits, IsStanding, IsShortKind}
 use Rattle.perc_tunnel.proofs.Suiting.{form_told, length_fits, length_is, length_form, kind_is, begins_suits, part_suits, suits_part, whole_front}
@@ -90,7 +90,7 @@ pub judged_empty : (octets : List ℕ) → length octets ≡ 0 → IsPart octets
 judged_empty (x ∷ xs) none = absurd (omega arith)
 judged_empty [] none =
     let s : Suits Version 1 [] = record { length = refl; fixed = (λ lt. absurd (omega arith), (λ lt. absurd (omega arith), (λ lt. absurd (omega arith), tt))) } in
-    suits_part Version 1 [] (λ k d lt. absurd (omega arith)) s (omega arith)
+    suits_part Version 1 [] AreOctets-nil s (omega arith)
 
 pub judged_kind : (octets : List ℕ) → 0 < length octets → (IsKind (get_or octets 0 0) → ⊥) → IsStanding octets (Fault Kind)
 judged_kind [] some none = absurd (omega arith)
@@ -143,7 +143,7 @@ judged_short_part (x ∷ []) some short fits kind zero =
     } in
     suits_part f.0 f.1 (x ∷ []) fits s (omega arith)
 judged_short_part (x ∷ h ∷ []) some short fits kind zero =
-    let f = short_form x h kind (All-get_or (λ x. x < 256) (x ∷ h ∷ []) 1 0 (omega arith) fits) (zero refl) in
+    let f = short_form x h kind (fits 1) (zero refl) in
     let s : Suits f.0 f.1 (x ∷ h ∷ []) = record {
       length = f.3;
       fixed = (λ _. sym f.2, (λ _. sym f.4, (λ lt. absurd (omega arith), behind_three f.0 f.1 (x ∷ h ∷ []) (omega arith))));
@@ -214,8 +214,8 @@ small_number : (octets : List ℕ) (form : Form) (n : ℕ) → Tests octets form
 small_number octets form n t =
     let long = t.long in
     let number = t.number in
-    let h : get_or octets 1 0 < 256 = All-get_or (λ x. x < 256) octets 1 0 (omega arith) t.each in
-    let l : get_or octets 2 0 < 256 = All-get_or (λ x. x < 256) octets 2 0 (omega arith) t.each in
+    let h : get_or octets 1 0 < 256 = t.each 1 in
+    let l : get_or octets 2 0 < 256 = t.each 2 in
     (h, l, omega arith)
 
 pub tests_suit : (octets : List ℕ) (form : Form) (n : ℕ) → Tests octets form n → HoldEach (fixed_in_body form n) octets → Suits form n octets
@@ -232,7 +232,7 @@ judged_part octets form n t held short = suits_part form n octets t.each (tests_
 
 pub judged_whole : (octets : List ℕ) (form : Form) (n : ℕ) → Tests octets form n → HoldEach (fixed_in_body form n) octets → 3 + n ≤ length octets
     → IsStanding octets (Whole form (3 + n))
-judged_whole octets form n t held fits = (fits, whole_front form n octets (tests_suit octets form n t held) fits, All-take (λ x. x < 256) (3 + n) octets t.each)
+judged_whole octets form n t held fits = (fits, whole_front form n octets (tests_suit octets form n t held) fits, AreOctets-take (3 + n) octets t.each)
 
 pub judged_body : (octets : List ℕ) (form : Form) (n : ℕ) → Tests octets form n → IsKind (get_or octets 0 0) → (HoldEach (fixed_in_body form n) octets → ⊥)
     → IsStanding octets (Fault Body)
@@ -268,9 +268,6 @@ judged_body (x ∷ h ∷ l ∷ xs) form n t kind none =
 
 pub refuted : {P : Type 0} (b : Bool) → (IsTrue b ↔ P) → b ≡ false → P → ⊥
 refuted b told is p = let t = told.1 p in cc
-
-pub octets_from : (octets : List ℕ) → ((i : ℕ) → get_or octets i 0 < 256) → AreOctets octets
-octets_from octets h = All-from_get_or (λ x. x < 256) octets 0 (λ i lt. h i)
 
 pub number_read : (octets : List ℕ) (n : ℕ) → n ≡ big_number 2 (take (length octets - 1) (drop 1 octets)) → IsNumber n octets
 number_read octets n is =

@@ -2,9 +2,10 @@
 use Rattle.std.proofs.Common.{◌≡◌, ℕ, zero, suc, ◌+◌, ◌*◌, ◌/◌, ◌%◌, ◌^◌, ◌<◌, List, [], ◌∷◌, ◌++◌, length, drop, get_or, refl, sym, ap, ◌∙◌, arith}
 use Rattle.std.specs.List.{flat_map, All}
 use Rattle.std.proofs.lemmas.List.{get_or-drop}
-use Rattle.std.proofs.lemmas.List.Elements.{All-cons, All-nil, All-head, All-tail, All-append}
+use Rattle.std.proofs.lemmas.List.Elements.{All-cons, All-nil, All-head, All-tail}
 use Rattle.byteorder.specs.Endian.{big_bytes, big_number}
-use Rattle.perc_tunnel.specs.Message.{AreOctets}
+use Rattle.perc_octets.specs.Octets.{AreOctets}
+use Rattle.perc_octets.proofs.Octets.{AreOctets-append, AreOctets-cons, AreOctets-nil}
 use Rattle.perc_tunnel.specs.Numbers.{numbers_in}
 
 abbrev pub AreNumbers : List ℕ → Type 0
@@ -12,7 +13,7 @@ AreNumbers = All (λ x. x < 2 ^ 16)
 
 pub two_octets : (x : ℕ) → AreOctets (big_bytes 2 x)
 two_octets x =
-    All-cons (λ y. y < 256) (x / 256 % 256) (x % 256 ∷ []) (omega arith) (All-cons (λ y. y < 256) (x % 256) [] (omega arith) (All-nil (λ y. y < 256)))
+    AreOctets-cons (x / 256 % 256) (x % 256 ∷ []) (omega arith) (AreOctets-cons (x % 256) [] (omega arith) AreOctets-nil)
 
 -- two octets spell the number in them
 pub number_spelled : (a b : ℕ) → a < 256 → b < 256 → big_bytes 2 (256 * a + b) ≡ a ∷ b ∷ []
@@ -31,19 +32,17 @@ pub numbers_spelled : (xs : List ℕ) → length xs % 2 ≡ 0 → AreOctets xs �
 numbers_spelled [] even fits = refl
 numbers_spelled (a ∷ []) even fits = absurd (omega arith)
 numbers_spelled (a ∷ b ∷ xs) even fits =
-    let tail = All-tail (λ x. x < 256) a (b ∷ xs) fits in
-    let rest = numbers_spelled xs (omega arith) (All-tail (λ x. x < 256) b xs tail) in
-    let one = number_spelled a b (All-head (λ x. x < 256) a (b ∷ xs) fits) (All-head (λ x. x < 256) b xs tail) in
+    let rest = numbers_spelled xs (omega arith) (λ k. fits (suc (suc k))) in
+    let one = number_spelled a b (fits 0) (fits 1) in
     ap (λ (r : List ℕ). r ++ flat_map (big_bytes 2) (numbers_in xs)) one ∙ ap (λ (r : List ℕ). a ∷ b ∷ r) rest
 
 pub numbers_fit : (xs : List ℕ) → AreOctets xs → AreNumbers (numbers_in xs)
 numbers_fit [] fits = All-nil (λ x. x < 2 ^ 16)
 numbers_fit (a ∷ []) fits = All-nil (λ x. x < 2 ^ 16)
 numbers_fit (a ∷ b ∷ xs) fits =
-    let tail = All-tail (λ x. x < 256) a (b ∷ xs) fits in
-    let ha : a < 256 = All-head (λ x. x < 256) a (b ∷ xs) fits in
-    let hb : b < 256 = All-head (λ x. x < 256) b xs tail in
-    All-cons (λ x. x < 2 ^ 16) (256 * a + b) (numbers_in xs) (omega arith) (numbers_fit xs (All-tail (λ x. x < 256) b xs tail))
+    let ha : a < 256 = fits 0 in
+    let hb : b < 256 = fits 1 in
+    All-cons (λ x. x < 2 ^ 16) (256 * a + b) (numbers_in xs) (omega arith) (numbers_fit xs (λ k. fits (suc (suc k))))
 
 pub numbers_again : (xs : List ℕ) → AreNumbers xs → numbers_in (flat_map (big_bytes 2) xs) ≡ xs
 numbers_again [] fits = refl
@@ -58,8 +57,8 @@ flat-length [] = refl
 flat-length (x ∷ xs) = omega (arith, flat-length xs)
 
 pub flat_octets : (xs : List ℕ) → AreOctets (flat_map (big_bytes 2) xs)
-flat_octets [] = All-nil (λ x. x < 256)
-flat_octets (x ∷ xs) = All-append (λ x. x < 256) (big_bytes 2 x) (flat_map (big_bytes 2) xs) (two_octets x) (flat_octets xs)
+flat_octets [] = AreOctets-nil
+flat_octets (x ∷ xs) = AreOctets-append (big_bytes 2 x) (flat_map (big_bytes 2) xs) (two_octets x) (flat_octets xs)
 
 number_at : (xs : List ℕ) (i : ℕ) → i < length (numbers_in xs) → get_or (numbers_in xs) i 0 ≡ 256 * get_or xs (2 * i) 0 + get_or xs (2 * i + 1) 0
 number_at [] i lt = absurd (omega arith)

@@ -1,14 +1,15 @@
 -- What octets suit: forms told apart, prefixes, and how a part is completed.
-use Rattle.std.proofs.Common.{◌≡◌, ℕ, ◌+◌, ◌-◌, ◌/◌, ◌%◌, ◌^◌, ◌<◌, ◌≤◌, inl, inr, List, [], ◌∷◌, ◌++◌, length, take, drop, get_or, replicate, Some, refl, sym, ap, subst, ◌∙◌, arith}
+use Rattle.std.proofs.Common.{◌≡◌, ℕ, zero, suc, ◌+◌, ◌-◌, ◌/◌, ◌%◌, ◌^◌, ◌<◌, ◌≤◌, inl, inr, List, [], ◌∷◌, ◌++◌, length, take, drop, get_or, replicate, Some, refl, sym, ap, subst, ◌∙◌, arith}
 use Rattle.std.proofs.lemmas.Bool.{cases_lt}
 use Rattle.std.proofs.lemmas.Bool.Decides.{nat_tests}
 use Rattle.std.proofs.lemmas.List.{length-append, length-drop, length-take-le, length-replicate, get_or_append_left, get_or-append_right, get_or-drop, take-append-drop}
-use Rattle.std.proofs.lemmas.List.Elements.{All-append, All-cons, All-drop, All-replicate}
 use Rattle.perc_base.specs.Profile.{profile_number, key_length}
 use Rattle.perc_base.specs.declared.profile.Profile.TheVariants.{Aes128, Aes256}
 use Rattle.perc_tunnel.specs.declared.forms.Form.{Form}
 use Rattle.perc_tunnel.specs.declared.forms.Form.TheVariants.{Profiles, Version, Keys, Record, Ended}
-use Rattle.perc_tunnel.specs.Message.{TunnelMessage, SupportedProfiles, UnsupportedVersion, MediaKeys, TunneledDtls, EndpointDisconnect, AreOctets, type_of, spelling}
+use Rattle.perc_octets.specs.Octets.{AreOctets}
+use Rattle.perc_octets.proofs.Octets.{AreOctets-append, AreOctets-cons, AreOctets-drop, AreOctets-nil}
+use Rattle.perc_tunnel.specs.Message.{TunnelMessage, SupportedProfiles, UnsupportedVersion, MediaKeys, TunneledDtls, EndpointDisconnect, type_of, spelling}
 use Rattle.perc_tunnel.specs.Stream.{BeginsWithMessage, IsPart, IsKind, IsLength}
 use Rattle.perc_tunnel.specs.Forms.{kind_of, HasLength, form_at, HoldEach, fixed, Suits, IsWhole, message_at}
 use Rattle.perc_tunnel.proofs.Whole.{form_in, read_again, whole_message}
@@ -139,22 +140,20 @@ template (Keys profile) n = keys_template n (profile_number profile) (key_length
 template Record n = 4 ∷ n / 256 % 256 ∷ n % 256 ∷ (replicate 16 0 ++ ((n - 18) / 256 % 256 ∷ (n - 18) % 256 ∷ replicate (n - 18) 0))
 template Ended n = 5 ∷ n / 256 % 256 ∷ n % 256 ∷ replicate 16 0
 
-abbrev IsOctet : ℕ → Type 0
-IsOctet x = x < 256
-
 -- the same fact as a record, which says of which list it is
 record Octets (xs : List ℕ) : Type 0 where
   each : AreOctets xs
 
-zeros : (n : ℕ) → Octets (replicate n 0)
-zeros n = record { each = All-replicate IsOctet n 0 (omega arith) }
-
--- one more octet in front, and n zeros
+-- one more octet in front, n zeros, and these in front
 more : (x : ℕ) (xs : List ℕ) → x < 256 → Octets xs → Octets (x ∷ xs)
-more x xs h k = record { each = All-cons IsOctet x xs h k.each }
+more x xs h k = record { each = AreOctets-cons x xs h k.each }
+
+zeros : (n : ℕ) → Octets (replicate n 0)
+zeros zero = record { each = AreOctets-nil }
+zeros (suc n) = more 0 (replicate n 0) (omega arith) (zeros n)
 
 more_zeros : (n : ℕ) (xs : List ℕ) → Octets xs → Octets (replicate n 0 ++ xs)
-more_zeros n xs k = record { each = All-append IsOctet (replicate n 0) xs (zeros n).each k.each }
+more_zeros n xs k = record { each = AreOctets-append (replicate n 0) xs (zeros n).each k.each }
 
 keys_octets : (n p k : ℕ) → p < 256 → k < 256 → Octets (keys_template n p k)
 keys_octets n p k p-fits k-fits =
@@ -198,7 +197,7 @@ suits_part form n xs fits s short =
     let rest : List ℕ = drop (length xs) t in
     let left : length rest ≡ 3 + n - length xs = length-drop (length xs) t ∙ ap (λ (k : ℕ). k - length xs) size in
     let below : Below (length t) (fixed form n) = subst (λ k. Below k (fixed form n)) (sym size) (fixed_below form n s.length) in
-    let all : AreOctets (xs ++ rest) = All-append IsOctet xs rest fits (All-drop IsOctet (length xs) t (template_octets form n).each) in
+    let all : AreOctets (xs ++ rest) = AreOctets-append xs rest fits (AreOctets-drop (length xs) t (template_octets form n).each) in
     let w : IsWhole form (xs ++ rest) = (
       n,
       record { length = s.length; fixed = HoldEach-filled (fixed form n) xs t below (template_fixed form n) s.fixed },

@@ -1,8 +1,7 @@
 -- Whole octets of a form spell one message, and each message is spelled by whole octets of its form.
-use Rattle.std.proofs.Common.{◌≡◌, ℕ, ◌+◌, ◌-◌, ◌*◌, ◌/◌, ◌%◌, ◌<◌, ◌≤◌, List, [], ◌∷◌, ◌++◌, length, take, drop, get_or, refl, sym, ap, ◌∙◌, arith}
+use Rattle.std.proofs.Common.{◌≡◌, ℕ, ◌+◌, ◌-◌, ◌*◌, ◌/◌, ◌%◌, ◌≤◌, List, [], ◌∷◌, ◌++◌, length, take, drop, get_or, refl, sym, ap, ◌∙◌, arith}
 use Rattle.std.specs.List.{flat_map}
 use Rattle.std.proofs.lemmas.List.{length-append, length-drop, length-take-le, take_all, drop_all, drop_more}
-use Rattle.std.proofs.lemmas.List.Elements.{All-take, All-drop, All-get_or}
 use Rattle.byteorder.specs.Endian.{big_bytes}
 use Rattle.perc_base.specs.Profile.{profile_number, key_length}
 use Rattle.perc_base.specs.declared.profile.Profile.{Profile}
@@ -10,7 +9,9 @@ use Rattle.perc_kdf.specs.Derivation.{KeyAndSalt}
 use Rattle.perc_tunnel.specs.declared.forms.Form.{Form}
 use Rattle.perc_tunnel.specs.declared.forms.Form.TheVariants.{Profiles, Version, Keys, Record, Ended}
 use Rattle.perc_tunnel.specs.Numbers.{numbers_in}
-use Rattle.perc_tunnel.specs.Message.{TunnelMessage, SupportedProfiles, UnsupportedVersion, MediaKeys, TunneledDtls, EndpointDisconnect, AreOctets, IsMessage, counted, type_of, body, spelling}
+use Rattle.perc_octets.specs.Octets.{AreOctets}
+use Rattle.perc_octets.proofs.Octets.{AreOctets-drop, AreOctets-take}
+use Rattle.perc_tunnel.specs.Message.{TunnelMessage, SupportedProfiles, UnsupportedVersion, MediaKeys, TunneledDtls, EndpointDisconnect, IsMessage, counted, type_of, body, spelling}
 use Rattle.perc_tunnel.specs.Forms.{Holds, HoldEach, fixed_in_body, IsWhole, message_at}
 use Rattle.perc_tunnel.proofs.Octets.{numbers-length, numbers_spelled, numbers_fit, numbers_again, flat-length}
 use Rattle.perc_tunnel.proofs.Pieces.{cons_at, piece_at, last_at, octet_at, behind_octet, behind_piece, piece_is, three_parts, seven_parts}
@@ -24,7 +25,7 @@ form_in (TunneledDtls association octets) = Record
 form_in (EndpointDisconnect association) = Ended
 
 part_octets : (xs : List ℕ) (i k : ℕ) → AreOctets xs → AreOctets (take k (drop i xs))
-part_octets xs i k fits = All-take (λ x. x < 256) k (drop i xs) (All-drop (λ x. x < 256) i xs fits)
+part_octets xs i k fits = AreOctets-take k (drop i xs) (AreOctets-drop i xs fits)
 
 part-length : (xs : List ℕ) (i k : ℕ) → i + k ≤ length xs → length (take k (drop i xs)) ≡ k
 part-length xs i k fits = length-take-le k (drop i xs) (omega (arith, length-drop i xs))
@@ -84,7 +85,7 @@ whole_version xs fits w =
     let one : w.0 ≡ 1 = w.1.length in
     let size = w.2 in
     let is : body (message_at Version xs) ≡ drop 3 xs = sym (octet_alone xs (omega arith)) in
-    (All-get_or (λ x. x < 256) xs 3 0 (omega arith) fits, spelled_behind (message_at Version xs) w.0 xs h.0 h.1.0 h.1.1.0 size is)
+    (fits 3, spelled_behind (message_at Version xs) w.0 xs h.0 h.1.0 h.1.1.0 size is)
   where
     octet_alone : (xs : List ℕ) → length xs ≡ 4 → drop 3 xs ≡ get_or xs 3 0 ∷ []
     octet_alone xs size = drop_more xs 3 0 (omega arith) ∙ ap (λ (r : List ℕ). get_or xs 3 0 ∷ r) (drop_all 4 xs (omega arith))
@@ -99,7 +100,7 @@ whole_profiles xs fits w =
     let rest : List ℕ = drop 6 xs in
     let len : length rest ≡ n - 3 = length-drop 6 xs ∙ omega arith in
     let even : length rest % 2 ≡ 0 = omega arith in
-    let rest_fits : AreOctets rest = All-drop (λ x. x < 256) 6 xs fits in
+    let rest_fits : AreOctets rest = AreOctets-drop 6 xs fits in
     let twice : 2 * length (numbers_in rest) ≡ length rest = numbers-length rest even in
     let count : 2 * length (numbers_in rest) ≡ n - 3 = twice ∙ len in
     let is : body (message_at Profiles xs) ≡ drop 3 xs =
@@ -108,7 +109,7 @@ whole_profiles xs fits w =
     ∙ cons_at xs 3 4 (get_or xs 3 0) (big_bytes 2 (n - 3) ++ rest) (omega arith) (omega arith) refl
     (cons_at xs 4 5 ((n - 3) / 256 % 256) ((n - 3) % 256 ∷ rest) (omega arith) (omega arith) (h.1.1.1.0 (omega arith))
     (cons_at xs 5 6 ((n - 3) % 256) rest (omega arith) (omega arith) (h.1.1.1.1.0 (omega arith)) refl)) in (
-      (All-get_or (λ x. x < 256) xs 3 0 (omega arith) fits, omega arith, omega arith, numbers_fit rest rest_fits),
+      (fits 3, omega arith, omega arith, numbers_fit rest rest_fits),
       spelled_behind (message_at Profiles xs) n xs h.0 h.1.0 h.1.1.0 size is,
     )
 
@@ -128,7 +129,7 @@ whole_record xs fits w =
     ∙ piece_at xs 3 16 19 (big_bytes 2 (n - 18) ++ rest) (omega arith)
     (cons_at xs 19 20 ((n - 18) / 256 % 256) ((n - 18) % 256 ∷ rest) (omega arith) (omega arith) (h.1.1.1.0 (omega arith))
     (cons_at xs 20 21 ((n - 18) % 256) rest (omega arith) (omega arith) (h.1.1.1.1.0 (omega arith)) refl)) in (
-      ((part-length xs 3 16 (omega arith), part_octets xs 3 16 fits), omega arith, omega arith, All-drop (λ x. x < 256) 21 xs fits),
+      ((part-length xs 3 16 (omega arith), part_octets xs 3 16 fits), omega arith, omega arith, AreOctets-drop 21 xs fits),
       spelled_behind (message_at Record xs) n xs h.0 h.1.0 h.1.1.0 size is,
     )
 

@@ -8,7 +8,8 @@ use Rattle.perc_tunnel.specs.declared.forms.Form.TheVariants.{Profiles, Version,
 use Rattle.perc_tunnel.specs.declared.forms.Standing.{Standing}
 use Rattle.perc_tunnel.specs.declared.forms.Standing.TheVariants.{Whole, Part, Fault}
 use Rattle.perc_tunnel.specs.Numbers.{numbers_in}
-use Rattle.perc_tunnel.specs.Message.{TunnelMessage, AreOctets, SupportedProfiles, UnsupportedVersion, MediaKeys, TunneledDtls, EndpointDisconnect}
+use Rattle.perc_octets.specs.Octets.{AreOctets}
+use Rattle.perc_tunnel.specs.Message.{TunnelMessage, SupportedProfiles, UnsupportedVersion, MediaKeys, TunneledDtls, EndpointDisconnect}
 use Rattle.perc_tunnel.specs.Stream.{BeginsWithMessage, IsPart, HasReason}
 
 -- the type of the messages of a form

@@ -6,6 +6,7 @@ use Rattle.byteorder.specs.Endian.{big_bytes}
 use Rattle.perc_base.specs.Profile.{profile_number, key_length}
 use Rattle.perc_base.specs.declared.profile.Profile.{Profile}
 use Rattle.perc_kdf.specs.Derivation.{KeyAndSalt}
+use Rattle.perc_octets.specs.Octets.{AreOctets}
 
 -- a message; an association is named by 16 octets
 pub data TunnelMessage : Type 0 where
@@ -14,9 +15,6 @@ pub data TunnelMessage : Type 0 where
   MediaKeys : (association : List ℕ) → (profile : Profile) → (client server : KeyAndSalt) → TunnelMessage
   TunneledDtls : (association octets : List ℕ) → TunnelMessage
   EndpointDisconnect : (association : List ℕ) → TunnelMessage
-
-abbrev pub AreOctets : List ℕ → Type 0
-AreOctets = All (λ x. x < 256)
 
 abbrev pub IsAssociation : List ℕ → Type 0
 IsAssociation association = (length association ≡ 16) × AreOctets association

@@ -4,7 +4,7 @@ use Rattle.perc_tunnel.specs.declared.decoder.room.Room.{Room}
 use Rattle.perc_tunnel.specs.declared.decoder.room.Turn.{Turn}
 use Rattle.perc_tunnel.specs.declared.decoder.room.Turn.TheVariants.{Message, Part, Fault}
 use Rattle.perc_tunnel.specs.Decoding.{Decoding, IsFault}
-use Rattle.perc_tunnel.specs.Message.{AreOctets}
+use Rattle.perc_octets.specs.Octets.{AreOctets}
 use Rattle.perc_tunnel.specs.Forms.{IsWhole, message_at}
 use Rattle.perc_tunnel.specs.Told.{keys_message}
 use Rattle.perc_tunnel.specs.declared.forms.Form.{Form}

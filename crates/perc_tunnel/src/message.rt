@@ -2,7 +2,7 @@
 ghost use Rattle.std.specs.Prelude.{◌≡◌, ◌≢◌, ◌*◌, ◌%◌, ◌^◌, ◌<◌, length, slice_index, MatchOption};
 ghost use Rattle.std.specs.List.{flat_map, All};
 ghost use Rattle.byteorder.specs.Endian.{big_bytes};
-ghost use Rattle.perc_tunnel.specs.Message.{AreOctets};
+ghost use Rattle.perc_octets.specs.Octets.{AreOctets};
 ghost use Rattle.perc_tunnel.specs.Numbers.{numbers_in};
 
 use byteorder::{BigEndian, ByteOrder};

@@ -2,7 +2,8 @@
 ghost use Rattle.std.specs.Prelude.{◌≡◌, ◌+◌, ◌*◌, ◌^◌, ◌<◌, ◌≤◌, ◌++◌, ◌∷◌, ◌↔◌, length, drop, SomeIff, IfSome, IfNone, OnSome, IsTrue};
 ghost use Rattle.byteorder.specs.Endian.{big_bytes};
 ghost use Rattle.perc_base.specs.Profile.{key_length};
-ghost use Rattle.perc_tunnel.specs.Message.{body, body_length, counted, Fits, HasLengths, IsAssociation, IsHalf, IsMessage, IsSpelled, message_length, spelling, type_of, AreOctets};
+ghost use Rattle.perc_octets.specs.Octets.{AreOctets};
+ghost use Rattle.perc_tunnel.specs.Message.{body, body_length, counted, Fits, HasLengths, IsAssociation, IsHalf, IsMessage, IsSpelled, message_length, spelling, type_of};
 ghost use Rattle.perc_tunnel.specs.Message as spec;
 ghost use Rattle.perc_tunnel.specs.Told.{content_of, keys_message, numbers_of};
 

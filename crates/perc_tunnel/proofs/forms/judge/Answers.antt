@@ -2,9 +2,9 @@ use Rattle.std.proofs.Common.{◌≡◌, ◌+◌, ◌<◌, ◌≤◌, length, sy
 use Rattle.std.proofs.lemmas.Bool.{eqb-true}
 use Rattle.std.proofs.lemmas.Bool.Decides.{nat_tests}
 use Rattle.perc_tunnel.specs.declared.forms.Standing.TheVariants.{Whole}
-use Rattle.perc_tunnel.specs.Message.{AreOctets}
+use Rattle.perc_octets.specs.Octets.{AreOctets}
 use Rattle.perc_tunnel.specs.Forms.{IsStanding}
-use Rattle.perc_tunnel.proofs.Judging.{refuted, octets_from, number_read, Tests, judged_empty, judged_kind, judged_length, judged_body, judged_part, judged_whole}
+use Rattle.perc_tunnel.proofs.Judging.{refuted, number_read, Tests, judged_empty, judged_kind, judged_length, judged_body, judged_part, judged_whole}
 use Rattle.perc_tunnel.proofs.forms.judge.Goals as goal
 
 pub returns-then-is_empty : goal.returns-then-is_empty
@@ -27,7 +27,7 @@ returns-in_default c =
 pub returns-then-not-has_fixed : goal.returns-then-not-has_fixed
 returns-then-not-has_fixed c =
     let octets = c.args.octets.now in
-    let each : AreOctets octets = octets_from octets (λ i. omega (arith, c.type_inv.octets i)) in
+    let each : AreOctets octets = λ i. omega (arith, c.type_inv.octets i) in
     let n = c.read_u16-len.result in
     let t : Tests octets c.in-Some.form n = record {
       long = c.if-octets-lt3.false;
@@ -40,7 +40,7 @@ returns-then-not-has_fixed c =
 pub returns-then-octets-end : goal.returns-then-octets-end
 returns-then-octets-end c =
     let octets = c.args.octets.now in
-    let each : AreOctets octets = octets_from octets (λ i. omega (arith, c.type_inv.octets i)) in
+    let each : AreOctets octets = λ i. omega (arith, c.type_inv.octets i) in
     let n = c.read_u16-len.result in
     let t : Tests octets c.in-Some.form n = record {
       long = c.if-octets-lt3.false;
@@ -53,7 +53,7 @@ returns-then-octets-end c =
 pub returns-else-octets-end : goal.returns-else-octets-end
 returns-else-octets-end c =
     let octets = c.args.octets.now in
-    let each : AreOctets octets = octets_from octets (λ i. omega (arith, c.type_inv.octets i)) in
+    let each : AreOctets octets = λ i. omega (arith, c.type_inv.octets i) in
     let n = c.read_u16-len.result in
     let t : Tests octets c.in-Some.form n = record {
       long = c.if-octets-lt3.false;
