@@ -7,11 +7,13 @@ use super::markup::Word;
 use std::alloc::{AllocError, Global};
 use std::marker::Model;
 
-/// The start of a picture and elements, each of them whole. An element for which no memory is found leaves it as it was.
+/// The start of a picture and elements, each of them whole. Where no memory is found for one, that is told at the end.
 #[derive(Drop)]
 pub struct Canvas {
     alloc: Global,
     octets: Vec<u8>,
+    /// Whether an element found no memory.
+    full: bool,
 }
 
 impl Model for Canvas {
@@ -24,14 +26,25 @@ impl Model for Canvas {
 
 impl Canvas {
     /// A canvas of this size with nothing on it.
-    pub fn new(alloc: Global, width: u64, height: u64) -> Result<Canvas, AllocError> {
+    pub(super) fn new(alloc: Global, width: u64, height: u64) -> Result<Canvas, AllocError> {
         let mut octets = Vec::new(alloc);
         start(&mut octets, width, height)?;
-        Ok(Canvas { alloc, octets })
+        Ok(Canvas {
+            alloc,
+            octets,
+            full: false,
+        })
     }
 
     /// Draws an element with these attributes, around this text.
-    pub fn draw(
+    pub(super) fn draw(&mut self, tag: Tag, attributes: &[Attribute<'_>], text: &[Word<'_>]) {
+        if self.append(tag, attributes, text).is_err() {
+            self.full = true;
+        }
+    }
+
+    // Appends an element. One for which no memory is found leaves the picture as it was.
+    fn append(
         &mut self,
         tag: Tag,
         attributes: &[Attribute<'_>],
@@ -42,11 +55,14 @@ impl Canvas {
         self.octets.extend_from_slice(element.as_slice())
     }
 
-    /// The picture, with its end.
+    /// The picture, with its end, where each element found memory.
     #[tactic(auto, using(crate::proofs::Drawn::finished))]
-    pub fn finish(self) -> Result<Vec<u8>, AllocError>
+    pub(super) fn finish(self) -> Result<Vec<u8>, AllocError>
         ensures { IfOk result (λ picture. IsPicture picture.items) }
     {
+        if self.full {
+            return Err(AllocError);
+        }
         let mut picture = self.octets;
         end(&mut picture)?;
         Ok(picture)

@@ -13,24 +13,24 @@ pub struct Columns {
 
 impl Columns {
     /// Columns of nobody.
-    pub fn new(alloc: Global) -> Columns {
+    pub(super) fn new(alloc: Global) -> Columns {
         Columns {
             names: Vec::new(alloc),
         }
     }
 
     /// How many columns there are, the distributor's too.
-    pub fn count(&self) -> usize {
+    pub(super) fn count(&self) -> usize {
         self.names.len().saturating_add(1)
     }
 
     /// The names, in order.
-    pub fn names(&self) -> &[Name] {
+    pub(super) fn names(&self) -> &[Name] {
         self.names.as_slice()
     }
 
     /// The column of a name, a new one where it has none yet. None where there is no room for another.
-    pub fn of(&mut self, name: &Name) -> Result<Option<usize>, AllocError> {
+    pub(super) fn of(&mut self, name: &Name) -> Result<Option<usize>, AllocError> {
         if let Some(column) = self.find(name) {
             return Ok(Some(column));
         }
@@ -52,7 +52,7 @@ impl Columns {
     }
 
     /// The name of a column.
-    pub fn name_of(&self, column: usize) -> &[u8] {
+    pub(super) fn name_of(&self, column: usize) -> &[u8] {
         if column == 0 {
             return b"distributor";
         }

@@ -6,10 +6,9 @@ use super::layout::{BELOW, GUTTER, OUTSIDE, ROW, SPACING, place_of};
 use super::markup::{Word, width};
 use super::row::{Outcome, Row, Saying, Shown, Way, What};
 use super::shapes::{arrow, boxed, text};
-use std::alloc::AllocError;
 
 /// Draws a row at this height.
-pub fn draw_row(out: &mut Canvas, columns: &Columns, row: &Row, y: u64) -> Result<(), AllocError> {
+pub(super) fn draw_row(out: &mut Canvas, columns: &Columns, row: &Row, y: u64) {
     let base = y.saturating_add(16);
     text(
         out,
@@ -18,14 +17,14 @@ pub fn draw_row(out: &mut Canvas, columns: &Columns, row: &Row, y: u64) -> Resul
         GUTTER,
         base,
         &[Word::Number(row.line)],
-    )?;
-    draw_what(out, columns, row, base)?;
-    draw_outcomes(out, columns, row, y.saturating_add(ROW))?;
-    draw_rest(out, row, y.saturating_add(ROW))
+    );
+    draw_what(out, columns, row, base);
+    draw_outcomes(out, columns, row, y.saturating_add(ROW));
+    draw_rest(out, row, y.saturating_add(ROW));
 }
 
 // Draws what a row shows.
-fn draw_what(out: &mut Canvas, columns: &Columns, row: &Row, base: u64) -> Result<(), AllocError> {
+fn draw_what(out: &mut Canvas, columns: &Columns, row: &Row, base: u64) {
     let x = place_of(row.column);
     match &row.what {
         What::Wire {
@@ -36,7 +35,7 @@ fn draw_what(out: &mut Canvas, columns: &Columns, row: &Row, base: u64) -> Resul
         What::Mark(saying) => draw_mark(out, columns, b"", Word::Octets(b""), saying, x, base),
         What::Late { datagram, saying } => {
             let number = Word::Number(u64::from(*datagram));
-            draw_mark(out, columns, b" ", number, saying, x, base)
+            draw_mark(out, columns, b" ", number, saying, x, base);
         }
     }
 }
@@ -50,7 +49,7 @@ fn draw_wire(
     class: &'static [u8],
     x: u64,
     base: u64,
-) -> Result<(), AllocError> {
+) {
     let middle = SPACING.saturating_add(x) / 2;
     let (anchor, at, how, dashes, from, to) = match way {
         Way::Up => (
@@ -86,8 +85,8 @@ fn draw_wire(
             SPACING,
         ),
     };
-    draw_label(out, anchor, at, base, how, datagram, shown)?;
-    arrow(out, class, dashes, from, to, base.saturating_add(6))
+    draw_label(out, anchor, at, base, how, datagram, shown);
+    arrow(out, class, dashes, from, to, base.saturating_add(6));
 }
 
 // Draws the number of a datagram, and what is shown of it.
@@ -99,7 +98,7 @@ fn draw_label(
     how: &[u8],
     datagram: u32,
     shown: &Shown,
-) -> Result<(), AllocError> {
+) {
     let how = Word::Octets(how);
     let datagram = Word::Number(u64::from(datagram));
     let words = match shown {
@@ -120,7 +119,7 @@ fn draw_label(
             Word::Number(*len as u64),
         ],
     };
-    text(out, b"plain", anchor, x, y, &words)
+    text(out, b"plain", anchor, x, y, &words);
 }
 
 // A space and a number, where there is one.
@@ -148,7 +147,7 @@ fn draw_mark(
     saying: &Saying,
     x: u64,
     base: u64,
-) -> Result<(), AllocError> {
+) {
     let number = number_words(b" ", saying.number);
     let epoch = number_words(b", epoch ", saying.epoch);
     let words = [
@@ -163,29 +162,22 @@ fn draw_mark(
         epoch.1,
     ];
     let room = width(&words).saturating_mul(7).saturating_add(14);
-    boxed(out, saying.class, x, base.saturating_sub(14), room, 20)?;
-    text(out, saying.class, b"middle", x, base, &words)
+    boxed(out, saying.class, x, base.saturating_sub(14), room, 20);
+    text(out, saying.class, b"middle", x, base, &words);
 }
 
 // Draws what became of a row's datagram, line below line.
-fn draw_outcomes(out: &mut Canvas, columns: &Columns, row: &Row, y: u64) -> Result<(), AllocError> {
+fn draw_outcomes(out: &mut Canvas, columns: &Columns, row: &Row, y: u64) {
     let head = row.head();
     let mut base = y.saturating_add(6);
     for outcome in row.outcomes() {
-        draw_outcome(out, columns, outcome, head, base)?;
+        draw_outcome(out, columns, outcome, head, base);
         base = base.saturating_add(BELOW);
     }
-    Ok(())
 }
 
 // Draws one outcome, beside the head of its arrow, with the name of another column where it was there.
-fn draw_outcome(
-    out: &mut Canvas,
-    columns: &Columns,
-    outcome: &Outcome,
-    head: usize,
-    base: u64,
-) -> Result<(), AllocError> {
+fn draw_outcome(out: &mut Canvas, columns: &Columns, outcome: &Outcome, head: usize, base: u64) {
     let saying = &outcome.saying;
     let place = place_words(columns, outcome, head);
     let number = number_words(b" ", saying.number);
@@ -206,8 +198,8 @@ fn draw_outcome(
         GUTTER,
         base,
         &[Word::Number(outcome.line)],
-    )?;
-    beside(out, saying.class, head, base, &words)
+    );
+    beside(out, saying.class, head, base, &words);
 }
 
 // The name of the column of an outcome, where it isn't the one at the head of the arrow.
@@ -224,41 +216,28 @@ fn place_words<'a>(
 }
 
 // Draws words beside a column: to its left where there is room.
-fn beside(
-    out: &mut Canvas,
-    class: &'static [u8],
-    column: usize,
-    base: u64,
-    words: &[Word<'_>],
-) -> Result<(), AllocError> {
+fn beside(out: &mut Canvas, class: &'static [u8], column: usize, base: u64, words: &[Word<'_>]) {
     let x = place_of(column);
     if column < 2 {
-        text(out, class, b"start", x.saturating_add(10), base, words)
+        text(out, class, b"start", x.saturating_add(10), base, words);
     } else {
-        text(out, class, b"end", x.saturating_sub(10), base, words)
+        text(out, class, b"end", x.saturating_sub(10), base, words);
     }
 }
 
 // Draws how many outcomes more there are, or that there are none where one is due.
-fn draw_rest(out: &mut Canvas, row: &Row, y: u64) -> Result<(), AllocError> {
+fn draw_rest(out: &mut Canvas, row: &Row, y: u64) {
     let above = BELOW.saturating_mul(row.outcomes().len() as u64);
     let base = y.saturating_add(6).saturating_add(above);
     if row.is_lost() {
-        return beside(
-            out,
-            b"quiet",
-            row.head(),
-            base,
-            &[Word::Octets(b"not delivered")],
-        );
+        let words = [Word::Octets(b"not delivered")];
+        beside(out, b"quiet", row.head(), base, &words);
+    } else if row.more > 0 {
+        let words = [
+            Word::Octets(b"and "),
+            Word::Number(row.more),
+            Word::Octets(b" more"),
+        ];
+        beside(out, b"quiet", row.head(), base, &words);
     }
-    if row.more == 0 {
-        return Ok(());
-    }
-    let words = [
-        Word::Octets(b"and "),
-        Word::Number(row.more),
-        Word::Octets(b" more"),
-    ];
-    beside(out, b"quiet", row.head(), base, &words)
 }

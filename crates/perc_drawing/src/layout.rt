@@ -2,29 +2,29 @@
 // of six members is 1200 wide.
 
 /// How far apart columns are.
-pub const SPACING: u64 = 150;
+pub(super) const SPACING: u64 = 150;
 
 /// Where what comes from outside begins.
-pub const OUTSIDE: u64 = 62;
+pub(super) const OUTSIDE: u64 = 62;
 
 /// Where the numbers of the report's lines stand.
-pub const GUTTER: u64 = 6;
+pub(super) const GUTTER: u64 = 6;
 
 /// Where the rows begin.
-pub const TOP: u64 = 56;
+pub(super) const TOP: u64 = 56;
 
 /// How high a row is without what became of its datagram.
-pub const ROW: u64 = 30;
+pub(super) const ROW: u64 = 30;
 
 /// How high each line below an arrow is.
-pub const BELOW: u64 = 16;
+pub(super) const BELOW: u64 = 16;
 
 /// Where a column is, counted from the distributor's, 0.
-pub fn place_of(column: usize) -> u64 {
+pub(super) fn place_of(column: usize) -> u64 {
     SPACING.saturating_mul((column as u64).saturating_add(1))
 }
 
 /// How wide a picture of so many columns is.
-pub fn width_of(columns: usize) -> u64 {
+pub(super) fn width_of(columns: usize) -> u64 {
     place_of(columns.max(4))
 }

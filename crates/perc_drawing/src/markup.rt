@@ -17,7 +17,7 @@ pub enum Word<'a> {
 
 /// Appends octets as they may stand in a text or in an attribute's value (XML 1.0 section 2.4): each that begins markup or
 /// ends a value is written as an entity, and each that isn't printable ASCII as a question mark.
-pub fn escape(out: &mut Vec<u8>, octets: &[u8]) -> Result<(), AllocError>
+pub(super) fn escape(out: &mut Vec<u8>, octets: &[u8]) -> Result<(), AllocError>
     ensures { OnOk result (out.new.items ≡ out.old.items ++ escaped octets.now) }
 {
     for octet in octets {
@@ -41,14 +41,14 @@ fn escape_octet(out: &mut Vec<u8>, octet: u8) -> Result<(), AllocError>
 }
 
 /// Appends octets as they are.
-pub fn plain(out: &mut Vec<u8>, octets: &[u8]) -> Result<(), AllocError>
+pub(super) fn plain(out: &mut Vec<u8>, octets: &[u8]) -> Result<(), AllocError>
     ensures { OnOk result (out.new.items ≡ out.old.items ++ octets.now) }
 {
     out.extend_from_slice(octets)
 }
 
 /// Appends a number in decimal.
-pub fn number(out: &mut Vec<u8>, number: u64) -> Result<(), AllocError>
+pub(super) fn number(out: &mut Vec<u8>, number: u64) -> Result<(), AllocError>
     ensures { OnOk result (out.new.items ≡ out.old.items ++ decimal number) }
 {
     let mut buffer = Buffer::new();
@@ -56,7 +56,7 @@ pub fn number(out: &mut Vec<u8>, number: u64) -> Result<(), AllocError>
 }
 
 /// Appends a word.
-pub fn append_word(out: &mut Vec<u8>, word: &Word<'_>) -> Result<(), AllocError>
+pub(super) fn append_word(out: &mut Vec<u8>, word: &Word<'_>) -> Result<(), AllocError>
     ensures { OnOk result (out.new.items ≡ out.old.items ++ word_text word.now) }
 {
     match word {
@@ -66,7 +66,7 @@ pub fn append_word(out: &mut Vec<u8>, word: &Word<'_>) -> Result<(), AllocError>
 }
 
 /// Appends words, one after another.
-pub fn append_words(out: &mut Vec<u8>, words: &[Word<'_>]) -> Result<(), AllocError>
+pub(super) fn append_words(out: &mut Vec<u8>, words: &[Word<'_>]) -> Result<(), AllocError>
     ensures { OnOk result (out.new.items ≡ out.old.items ++ words_text words.now) }
 {
     for each in words {
@@ -76,7 +76,7 @@ pub fn append_words(out: &mut Vec<u8>, words: &[Word<'_>]) -> Result<(), AllocEr
 }
 
 /// How many octets the words have, where none needs an entity.
-pub fn width(words: &[Word<'_>]) -> u64 {
+pub(super) fn width(words: &[Word<'_>]) -> u64 {
     let mut width = 0u64;
     for each in words {
         width = width.saturating_add(width_of(each));

@@ -36,7 +36,7 @@ pub struct Picture {
 
 impl Picture {
     /// A picture of nothing.
-    pub fn new(alloc: Global) -> Result<Picture, AllocError> {
+    pub(super) fn new(alloc: Global) -> Result<Picture, AllocError> {
         Ok(Picture {
             alloc,
             columns: Columns::new(alloc),
@@ -48,7 +48,7 @@ impl Picture {
     }
 
     /// Notes a line of the report, by its number.
-    pub fn note(&mut self, line: u64, report: &ReportLine<'_>) -> Result<(), AllocError> {
+    pub(super) fn note(&mut self, line: u64, report: &ReportLine<'_>) -> Result<(), AllocError> {
         match report {
             ReportLine::Ekt { spi } => self.row(
                 line,
@@ -231,18 +231,18 @@ impl Picture {
     }
 
     /// The picture.
-    pub fn drawn(&self) -> Result<Vec<u8>, AllocError>
+    pub(super) fn drawn(&self) -> Result<Vec<u8>, AllocError>
         ensures { IfOk result (λ picture. IsPicture picture.items) }
     {
         let bottom = self.bottom().saturating_add(10);
         let width = width_of(self.columns.count());
         let height = bottom.saturating_add(60);
         let mut out = Canvas::new(self.alloc, width, height)?;
-        rules(&mut out)?;
-        boxed(&mut out, b"page", width / 2, 0, width, height)?;
-        draw_columns(&mut out, &self.columns, bottom)?;
-        draw_rows(&mut out, &self.columns, self.rows.as_slice())?;
-        draw_more(&mut out, self.more, bottom)?;
+        rules(&mut out);
+        boxed(&mut out, b"page", width / 2, 0, width, height);
+        draw_columns(&mut out, &self.columns, bottom);
+        draw_rows(&mut out, &self.columns, self.rows.as_slice());
+        draw_more(&mut out, self.more, bottom);
         out.finish()
     }
 }
@@ -300,53 +300,44 @@ fn accepted(what: &'static [u8], number: u64) -> Saying {
 }
 
 // Draws the columns with their names at both ends.
-fn draw_columns(out: &mut Canvas, columns: &Columns, bottom: u64) -> Result<(), AllocError> {
-    draw_column(out, b"distributor", SPACING, bottom)?;
+fn draw_columns(out: &mut Canvas, columns: &Columns, bottom: u64) {
+    draw_column(out, b"distributor", SPACING, bottom);
     let mut x = SPACING;
     for name in columns.names() {
         x = x.saturating_add(SPACING);
-        draw_column(out, name.as_bytes(), x, bottom)?;
+        draw_column(out, name.as_bytes(), x, bottom);
     }
-    Ok(())
 }
 
 // Draws a column with its name at both ends.
-fn draw_column(out: &mut Canvas, name: &[u8], x: u64, bottom: u64) -> Result<(), AllocError> {
-    line(out, b"column", b"none", (x, 40), (x, bottom))?;
+fn draw_column(out: &mut Canvas, name: &[u8], x: u64, bottom: u64) {
+    line(out, b"column", b"none", (x, 40), (x, bottom));
     let words = [Word::Octets(name)];
     for top in [16, bottom] {
-        boxed(out, b"name", x, top, 136, 26)?;
-        text(out, b"name", b"middle", x, top.saturating_add(18), &words)?;
+        boxed(out, b"name", x, top, 136, 26);
+        text(out, b"name", b"middle", x, top.saturating_add(18), &words);
     }
-    Ok(())
 }
 
 // Draws rows, one below another.
-fn draw_rows(out: &mut Canvas, columns: &Columns, rows: &[Row]) -> Result<(), AllocError> {
+fn draw_rows(out: &mut Canvas, columns: &Columns, rows: &[Row]) {
     let mut y = TOP;
     for row in rows {
-        draw_row(out, columns, row, y)?;
+        draw_row(out, columns, row, y);
         y = y.saturating_add(row.height());
     }
-    Ok(())
 }
 
 // Draws how many lines aren't drawn, where there are any.
-fn draw_more(out: &mut Canvas, more: u64, bottom: u64) -> Result<(), AllocError> {
+fn draw_more(out: &mut Canvas, more: u64, bottom: u64) {
     if more == 0 {
-        return Ok(());
+        return;
     }
     let words = [
         Word::Octets(b"Cut after 1000 rows: "),
         Word::Number(more),
         Word::Octets(b" more lines of the report aren't drawn."),
     ];
-    text(
-        out,
-        b"refused",
-        b"start",
-        place_of(0),
-        bottom.saturating_add(46),
-        &words,
-    )
+    let y = bottom.saturating_add(46);
+    text(out, b"refused", b"start", place_of(0), y, &words);
 }

@@ -27,7 +27,7 @@ pub enum DrawEnd {
 
 /// Reads a report, and writes its picture. Nothing is written before the whole report is read. The end tells the first line that is
 /// none of a report, or has more than 8192 octets, where there is one.
-pub fn draw_report<I: Source, O: Sink>(alloc: Global, input: &mut I, out: &mut O) -> DrawEnd
+pub(super) fn draw_report<I: Source, O: Sink>(alloc: Global, input: &mut I, out: &mut O) -> DrawEnd
     // Where the source tells what it has: no line but the one that is told is none of a report.
     ensures told { IfSome (I.left input.old) (λ octets. Tells (lines_of octets) result) }
     // A whole picture is written, or nothing, but where a write fails.

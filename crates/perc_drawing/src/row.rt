@@ -79,7 +79,7 @@ pub struct Row {
 
 impl Row {
     /// A row without outcomes.
-    pub fn new(alloc: Global, line: u64, column: usize, what: What) -> Row {
+    pub(super) fn new(alloc: Global, line: u64, column: usize, what: What) -> Row {
         Row {
             line,
             column,
@@ -90,7 +90,7 @@ impl Row {
     }
 
     /// Adds what became of the row's datagram.
-    pub fn add(&mut self, outcome: Outcome) -> Result<(), AllocError> {
+    pub(super) fn add(&mut self, outcome: Outcome) -> Result<(), AllocError> {
         if self.outcomes.len() == MOST_OUTCOMES {
             self.more = self.more.saturating_add(1);
             return Ok(());
@@ -99,12 +99,12 @@ impl Row {
     }
 
     /// The outcomes, in order.
-    pub fn outcomes(&self) -> &[Outcome] {
+    pub(super) fn outcomes(&self) -> &[Outcome] {
         self.outcomes.as_slice()
     }
 
     /// The column at the head of the row's arrow.
-    pub fn head(&self) -> usize {
+    pub(super) fn head(&self) -> usize {
         match self.what {
             What::Wire {
                 way: Way::Up,
@@ -116,7 +116,7 @@ impl Row {
     }
 
     /// The class of the arrow: that of the first outcome, where it is one at the head.
-    pub fn class(&self) -> &'static [u8] {
+    pub(super) fn class(&self) -> &'static [u8] {
         match self.outcomes.first() {
             Some(outcome) if outcome.at == self.head() => outcome.saying.class,
             _ => b"plain",
@@ -124,7 +124,7 @@ impl Row {
     }
 
     /// Whether the datagram was sent to a member, and no line tells what became of it.
-    pub fn is_lost(&self) -> bool {
+    pub(super) fn is_lost(&self) -> bool {
         match self.what {
             What::Wire {
                 way: Way::Down | Way::Reseal,
@@ -136,7 +136,7 @@ impl Row {
     }
 
     /// How high the row is, with the lines below it.
-    pub fn height(&self) -> u64 {
+    pub(super) fn height(&self) -> u64 {
         let rest = u64::from(self.more > 0 || self.is_lost());
         let below = rest.saturating_add(self.outcomes.len() as u64);
         ROW.saturating_add(BELOW.saturating_mul(below))
@@ -144,7 +144,7 @@ impl Row {
 }
 
 /// What is shown of a datagram of these octets, as many as there is room for.
-pub fn shown_of(octets: &Octets<'_>, room: &mut [u8]) -> Shown {
+pub(super) fn shown_of(octets: &Octets<'_>, room: &mut [u8]) -> Shown {
     let n = octets.len().min(room.len());
     let packet = &mut room[..n];
     octets.write_front(packet);

@@ -2,7 +2,6 @@
 use super::canvas::Canvas;
 use super::element::{Attribute, Key, Tag};
 use super::markup::Word;
-use std::alloc::AllocError;
 
 // The rules for the classes. Texts have a white edge, so that they can be read over a column.
 const RULES: &[u8] =
@@ -15,9 +14,9 @@ const RULES: &[u8] =
     line.dropped{stroke:#bc4c00} rect.dropped{fill:#fff1e5;stroke:#bc4c00}";
 
 /// Draws the title and the rules for the classes.
-pub fn rules(out: &mut Canvas) -> Result<(), AllocError> {
-    out.draw(Tag::Title, &[], &[Word::Octets(b"Report of a conference")])?;
-    out.draw(Tag::Style, &[], &[Word::Octets(RULES)])
+pub(super) fn rules(out: &mut Canvas) {
+    out.draw(Tag::Title, &[], &[Word::Octets(b"Report of a conference")]);
+    out.draw(Tag::Style, &[], &[Word::Octets(RULES)]);
 }
 
 // An attribute that is a number.
@@ -37,31 +36,31 @@ fn word_of(key: Key, word: &'static [u8]) -> Attribute<'static> {
 }
 
 /// Draws a text, of which the `anchor`, `start`, `middle` or `end`, stands at a place.
-pub fn text(
+pub(super) fn text(
     out: &mut Canvas,
     class: &'static [u8],
     anchor: &'static [u8],
     x: u64,
     y: u64,
     words: &[Word<'_>],
-) -> Result<(), AllocError> {
+) {
     let attributes = [
         word_of(Key::Class, class),
         word_of(Key::Anchor, anchor),
         number_of(Key::X, x),
         number_of(Key::Y, y),
     ];
-    out.draw(Tag::Text, &attributes, words)
+    out.draw(Tag::Text, &attributes, words);
 }
 
 /// Draws a line between two places, with dashes of these lengths.
-pub fn line(
+pub(super) fn line(
     out: &mut Canvas,
     class: &'static [u8],
     dashes: &'static [u8],
     from: (u64, u64),
     to: (u64, u64),
-) -> Result<(), AllocError> {
+) {
     let attributes = [
         word_of(Key::Class, class),
         word_of(Key::Dashes, dashes),
@@ -70,18 +69,18 @@ pub fn line(
         number_of(Key::X2, to.0),
         number_of(Key::Y2, to.1),
     ];
-    out.draw(Tag::Line, &attributes, &[])
+    out.draw(Tag::Line, &attributes, &[]);
 }
 
 /// Draws a box of this width and height, around a middle.
-pub fn boxed(
+pub(super) fn boxed(
     out: &mut Canvas,
     class: &'static [u8],
     middle: u64,
     top: u64,
     width: u64,
     height: u64,
-) -> Result<(), AllocError> {
+) {
     let attributes = [
         word_of(Key::Class, class),
         number_of(Key::X, middle.saturating_sub(width / 2)),
@@ -89,24 +88,24 @@ pub fn boxed(
         number_of(Key::Width, width),
         number_of(Key::Height, height),
     ];
-    out.draw(Tag::Rect, &attributes, &[])
+    out.draw(Tag::Rect, &attributes, &[]);
 }
 
 /// Draws a level arrow from one place to another.
-pub fn arrow(
+pub(super) fn arrow(
     out: &mut Canvas,
     class: &'static [u8],
     dashes: &'static [u8],
     from: u64,
     to: u64,
     y: u64,
-) -> Result<(), AllocError> {
+) {
     let behind = if from < to {
         to.saturating_sub(8)
     } else {
         to.saturating_add(8)
     };
-    line(out, class, dashes, (from, y), (to, y))?;
-    line(out, class, b"none", (behind, y.saturating_sub(4)), (to, y))?;
-    line(out, class, b"none", (behind, y.saturating_add(4)), (to, y))
+    line(out, class, dashes, (from, y), (to, y));
+    line(out, class, b"none", (behind, y.saturating_sub(4)), (to, y));
+    line(out, class, b"none", (behind, y.saturating_add(4)), (to, y));
 }

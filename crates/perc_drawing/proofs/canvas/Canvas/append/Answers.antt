@@ -1,6 +1,6 @@
 use Rattle.std.proofs.Common.{◌∙◌}
 use Rattle.perc_drawing.proofs.Drawn.{begun_either}
-use Rattle.perc_drawing.proofs.canvas.Canvas.draw.Goals as goal
+use Rattle.perc_drawing.proofs.canvas.Canvas.append.Goals as goal
 
 pub invariant_of-self : goal.invariant_of-self
 invariant_of-self c =
