@@ -1,8 +1,8 @@
 -- The next line of a report is noted, or told as the first that is none.
-use Rattle.std.proofs.Common.{◌≡◌, ℕ, ◌+◌, ◌<◌, ◌≤◌, ◌&&◌, Bool, true, false, cond, List, [], ◌∷◌, length, Option, Some, None, Result, Ok, Err, IfSome, Bor, refl, sym, ap, subst, ◌∙◌}
-use Rattle.std.specs.Prelude.{nat_le, is_some}
+use Rattle.std.proofs.Common.{◌≡◌, ℕ, ◌+◌, ◌<◌, ◌≤◌, ◌&&◌, Bool, true, false, List, [], ◌∷◌, length, Option, Some, None, Result, Ok, Err, IfSome, Bor, refl, sym, ap, subst, ◌∙◌}
+use Rattle.std.specs.Prelude.{is_some}
 use Rattle.std.proofs.lemmas.Bool.{cond-true, cond-false, le-leb, lt-leb}
-use Rattle.perc_base.specs.Lines.{Held, Found, Line, Long, End, Gives, Step, answered, lines_before, longest}
+use Rattle.perc_base.specs.Lines.{Held, Line, Long, End, Gives, Step, answered, lines_before, longest}
 use Rattle.perc_base.specs.declared.lines.LineRead.{LineRead}
 use Rattle.perc_base.specs.declared.lines.LineRead.TheVariants as read
 use Rattle.perc_base.specs.declared.outside.Failed.{Failed}

@@ -1,7 +1,7 @@
 use Rattle.std.proofs.Common.{◌≡◌, Ok, Result, ap, ◌∙◌}
 use Rattle.perc_base.specs.declared.lines.LineRead.{LineRead}
 use Rattle.perc_base.specs.declared.outside.Failed.{Failed}
-use Rattle.perc_drawing.proofs.Reading.{past_end, past_fault, past_line, past_long}
+use Rattle.perc_drawing.proofs.Reading.{past_fault, past_line, past_long}
 use Rattle.perc_drawing.proofs.report.note_next.Goals as goal
 
 as_ok : {x y : LineRead} → x ≡ y → ◌≡◌ {A = Result LineRead Failed} (Ok x) (Ok y)
