@@ -161,7 +161,6 @@ fn is_as_in(rt: &impl Abort, alloc: Global, row: &(&str, &str, u32, u32, u16, u1
     let len = (key.len() / 2).min(32);
     let key = key_of(rt, key);
     let field = octets(rt, alloc, field);
-    let key_profile = profile(len);
     assert!(rt; len == 16 || len == 32, "{len} octets of a key");
     let end = len + 24;
     let mut cipher = [7; 56];
@@ -180,18 +179,28 @@ fn is_as_in(rt: &impl Abort, alloc: Global, row: &(&str, &str, u32, u32, u16, u1
         cipher: 1..end + 1,
     };
     assert_eq!(rt; read_end(&out[..end + 8]), Ok((read, end + 7)));
-    let mut altered = cipher;
-    altered[5] ^= 1;
-    assert!(rt; unwrap_key(&ekt, key_profile, &mut altered[..end]) == Err(KeyFault::Unwrap));
-    let mut again = cipher;
-    assert!(rt; unwrap_key(&ekt, other(key_profile), &mut again[..end]) == Err(KeyFault::Plain));
     let told = Wrapped {
         key,
         len,
         ssrc,
         roc,
     };
-    assert!(rt; unwrap_key(&ekt, key_profile, &mut cipher[..end]) == Ok(told));
+    assert!(rt; is_unwrapped_to(&ekt, &cipher, &told));
+}
+
+// Whether a wrapped key gives this, and neither with an octet altered nor under another profile.
+fn is_unwrapped_to(ekt: &AesKey, cipher: &[u8; 56], told: &Wrapped) -> bool
+    requires { (told.now.len ≤ 32) × (16 ≤ told.now.len) }
+{
+    let end = told.len + 24;
+    let key_profile = profile(told.len);
+    let mut altered = *cipher;
+    altered[5] ^= 1;
+    let mut again = *cipher;
+    let mut right = *cipher;
+    unwrap_key(ekt, key_profile, &mut altered[..end]) == Err(KeyFault::Unwrap)
+        && unwrap_key(ekt, other(key_profile), &mut again[..end]) == Err(KeyFault::Plain)
+        && unwrap_key(ekt, key_profile, &mut right[..end]) == Ok(*told)
 }
 
 #[test]
@@ -248,6 +257,13 @@ fn writes(rt: HostRuntime) {
     assert!(rt; out[40..].starts_with(b"\x00\x01\x00\x02\x00\x2f\x02\x07"));
     assert_eq!(rt; write_full(1, 2, &[5; 56], &mut out), Some(63));
     assert!(rt; out[61..].starts_with(b"\x3f\x02\x07"));
+    assert_eq!(rt; write_short(&mut out[..0]), None);
+    assert_eq!(rt; write_short(&mut out), Some(1));
+    assert!(rt; out.starts_with(&[0, 5]));
+}
+
+#[test]
+fn writes_where_it_fits(rt: HostRuntime) {
     for len in 0..60 {
         let fits = 16 <= len && len % 8 == 0;
         for room in [len + 6, len + 7, len + 8] {
@@ -259,9 +275,6 @@ fn writes(rt: HostRuntime) {
             assert_eq!(rt; written(len, room), (want, true), "{len} in {room}");
         }
     }
-    assert_eq!(rt; write_short(&mut out[..0]), None);
-    assert_eq!(rt; write_short(&mut out), Some(1));
-    assert!(rt; out.starts_with(&[0, 5]));
 }
 
 #[test]

@@ -6,7 +6,16 @@ use perc_gcm::{HTable, TagMismatch, seal, unseal};
 use std::process::Abort;
 
 // Key, IV, additional data, text, cipher text and tag.
-const VECTORS: [(&str, &str, &str, &str, &str, &str); 27] = [
+type Vector = (
+    &'static str,
+    &'static str,
+    &'static str,
+    &'static str,
+    &'static str,
+    &'static str,
+);
+
+const FIRST: [Vector; 9] = [
     (
         "00000000000000000000000000000000",
         "000000000000000000000000",
@@ -79,6 +88,9 @@ const VECTORS: [(&str, &str, &str, &str, &str, &str); 27] = [
         "51eae28f838cccf153da74d663664c8e65ef4bcdd22cd5aa9d1ee6a631ae4e",
         "d6b11c56ca304cf2f3620521b725215e",
     ),
+];
+
+const SECOND: [Vector; 9] = [
     (
         "131aee77a49b5ab7c5ba2cce7790682d",
         "1cc43a8e887cf41638ba8ad0",
@@ -151,6 +163,9 @@ const VECTORS: [(&str, &str, &str, &str, &str, &str); 27] = [
         "d35b1498c31b3baf9c421a9b7c510a",
         "aa431a76a5d10542b37f33dad06e0c28",
     ),
+];
+
+const THIRD: [Vector; 9] = [
     (
         "004708de37473ad73ca9c730e10fb1e1b596cb2d9757b505e0f04677da84f6c2",
         "444aa0335235958813036d41",
@@ -288,9 +303,9 @@ fn refuses_wrong_tag(row: &(&str, &str, &str, &str, &str, &str), i: usize) -> bo
     refused && spells(text, cipher)
 }
 
-#[test]
-fn vectors(rt: HostRuntime) {
-    for row in &VECTORS {
+// Each vector seals and opens, and is refused with a wrong octet in its tag.
+fn are_right(rt: &impl Abort, vectors: &[Vector]) {
+    for row in vectors {
         assert!(rt; seals_and_opens(row), "tag {}", row.5);
         for octet in 0..16 {
             assert!(rt;
@@ -300,6 +315,21 @@ fn vectors(rt: HostRuntime) {
             );
         }
     }
+}
+
+#[test]
+fn first_vectors(rt: HostRuntime) {
+    are_right(&rt, &FIRST);
+}
+
+#[test]
+fn second_vectors(rt: HostRuntime) {
+    are_right(&rt, &SECOND);
+}
+
+#[test]
+fn third_vectors(rt: HostRuntime) {
+    are_right(&rt, &THIRD);
 }
 
 #[test]

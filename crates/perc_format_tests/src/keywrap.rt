@@ -1,5 +1,5 @@
 // Key wrap against outside vectors, altered octets and lengths.
-ghost use Rattle.std.specs.Prelude.{◌≤◌, vec_len};
+ghost use Rattle.std.specs.Prelude.{◌<◌, ◌≤◌, length, vec_len};
 
 use perc_aes::AesKey;
 use perc_keywrap::{UnwrapFault, unwrap, wrap};
@@ -233,7 +233,7 @@ fn key_of(rt: &impl Abort, alloc: Global, text: &str) -> AesKey {
 
 #[test]
 fn both_directions(rt: HostRuntime) {
-    for (key, plain, wrapped) in WRAPPED {
+    for (key, plain, wrapped) in &WRAPPED {
         let key = key_of(&rt, rt.alloc(), key);
         let plain = octets(&rt, rt.alloc(), plain);
         let wrapped = octets(&rt, rt.alloc(), wrapped);
@@ -249,7 +249,7 @@ fn both_directions(rt: HostRuntime) {
 
 #[test]
 fn nothing_wrapped(rt: HostRuntime) {
-    for (key, wrapped) in WRONG {
+    for (key, wrapped) in &WRONG {
         let mut out = octets(&rt, rt.alloc(), wrapped);
         assert_eq!(rt;
             unwrap(&key_of(&rt, rt.alloc(), key), &mut out),
@@ -258,19 +258,35 @@ fn nothing_wrapped(rt: HostRuntime) {
     }
 }
 
+// Whether octets with one bit changed are refused.
+fn is_refused(key: &AesKey, wrapped: &[u8], k: usize, bit: u32) -> bool
+    requires { (length wrapped.now ≤ 80) × (bit < 8) }
+{
+    let mut out = [0; 80];
+    let out = &mut out[..wrapped.len()];
+    out.copy_from_slice(wrapped);
+    if let Some(octet) = out.get_mut(k) {
+        *octet ^= 1 << bit;
+    }
+    unwrap(key, out) == Err(UnwrapFault::Check)
+}
+
 #[test]
 fn a_bit_changed(rt: HostRuntime) {
-    let (key, _, wrapped) = WRAPPED[10];
-    let key = key_of(&rt, rt.alloc(), key);
-    for k in 0..octets(&rt, rt.alloc(), wrapped).len() {
-        for bit in 0..8u32 {
-            let mut out = octets(&rt, rt.alloc(), wrapped);
-            if let Some(octet) = out.get_mut(k) {
-                *octet ^= 1 << bit;
-            }
-            assert_eq!(rt;
-                unwrap(&key, &mut out),
-                Err(UnwrapFault::Check),
+    let key = key_of(
+        &rt,
+        rt.alloc(),
+        "417e1d85331a8b19da2f25974412ecd98b4abfff2018ed0d",
+    );
+    let wrapped = octets(
+        &rt,
+        rt.alloc(),
+        "52522de53997ca47acbdc346b5ac47383176149346055cbba2a73d312fac64679da0f09a161a7ec9",
+    );
+    for k in 0..wrapped.len() {
+        for bit in 0..8 {
+            assert!(rt;
+                is_refused(&key, &wrapped, k, bit),
                 "bit {bit} of octet {k}"
             );
         }

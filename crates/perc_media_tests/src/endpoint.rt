@@ -415,11 +415,15 @@ fn grants(rt: HostRuntime) {
         &rt,
         "there is memory",
     );
-    assert_eq!(rt; taken(&mut endpoint, 1, 0xd2), Err(GrantFault::SpiOld(1)));
-    assert_eq!(rt; taken(&mut endpoint, 2, 2), Ok(()));
-    assert_eq!(rt; taken(&mut endpoint, 3, 3), Ok(()));
-    assert_eq!(rt; taken(&mut endpoint, 4, 4), Ok(()));
-    assert_eq!(rt; taken(&mut endpoint, 5, 4), Err(GrantFault::KeyRepeated));
+    for (spi, key, want) in [
+        (1, 0xd2, Err(GrantFault::SpiOld(1))),
+        (2, 2, Ok(())),
+        (3, 3, Ok(())),
+        (4, 4, Ok(())),
+        (5, 4, Err(GrantFault::KeyRepeated)),
+    ] {
+        assert_eq!(rt; taken(&mut endpoint, spi, key), want, "SPI {spi}");
+    }
     assert_eq!(rt; hand_over(&mut sender, &mut endpoint), None);
     assert_eq!(rt; endpoint.rekey(&[5; 16]), Ok(1));
     assert_eq!(rt; taken(&mut endpoint, 5, 6), Ok(()));

@@ -449,25 +449,38 @@ fn is_answered_so(rt: &impl Abort, alloc: Global, site: &mut Site, row: &Row) ->
     }
 }
 
-#[test]
-fn answers(rt: HostRuntime) -> Result<(), Memory> {
-    let tables = [
-        (2, &OPENED[..]),
-        (2, &BLOCKS[..]),
-        (2, &DROPPED[..]),
-        (2, &EXTENDED_ON[..]),
-        (3, &NAMED[..]),
-    ];
-    for (table, (count, rows)) in tables.iter().enumerate() {
-        let mut site = site_of(rt.alloc(), *count)?;
-        for (i, row) in rows.iter().enumerate() {
-            assert!(rt;
-                is_answered_so(&rt, rt.alloc(), &mut site, row),
-                "row {i} of table {table}"
-            );
-        }
+// Datagrams in turn are answered so, by a distributor of so many members.
+fn are_answered_so(rt: &impl Abort, alloc: Global, count: u8, rows: &[Row]) -> Result<(), Memory> {
+    let mut site = site_of(alloc, count)?;
+    for (i, row) in rows.iter().enumerate() {
+        assert!(rt; is_answered_so(rt, alloc, &mut site, row), "row {i}");
     }
     Ok(())
+}
+
+#[test]
+fn opens(rt: HostRuntime) -> Result<(), Memory> {
+    are_answered_so(&rt, rt.alloc(), 2, &OPENED)
+}
+
+#[test]
+fn reads_blocks(rt: HostRuntime) -> Result<(), Memory> {
+    are_answered_so(&rt, rt.alloc(), 2, &BLOCKS)
+}
+
+#[test]
+fn drops(rt: HostRuntime) -> Result<(), Memory> {
+    are_answered_so(&rt, rt.alloc(), 2, &DROPPED)
+}
+
+#[test]
+fn sets_extensions(rt: HostRuntime) -> Result<(), Memory> {
+    are_answered_so(&rt, rt.alloc(), 2, &EXTENDED_ON)
+}
+
+#[test]
+fn sends_to_those_named(rt: HostRuntime) -> Result<(), Memory> {
+    are_answered_so(&rt, rt.alloc(), 3, &NAMED)
 }
 
 // Whether an output is sealed for this member, and like the one among others.
