@@ -1,4 +1,6 @@
 // Fields, wrapped keys and records, against octets spelled out by hand and outside vectors.
+ghost use Rattle.std.specs.Prelude.{◌≤◌};
+
 use perc_aes::AesKey;
 use perc_base::Profile;
 use perc_ekt::{
