@@ -17,9 +17,6 @@ use std::collections::BTreeMap;
 /// How many rows are drawn at most.
 const MOST_ROWS: usize = 1000;
 
-/// How many octets a datagram has at most that a line spells.
-const MOST_OCTETS: usize = 4096;
-
 /// What is drawn of a report: the first thousand rows, and what later lines tell of their datagrams.
 #[derive(Drop)]
 pub struct Picture {
@@ -28,32 +25,32 @@ pub struct Picture {
     rows: Vec<Row>,
     /// The row of a datagram, by its number.
     places: BTreeMap<u32, usize>,
-    /// Room for the octets of a datagram.
-    room: Vec<u8>,
     /// How many lines aren't drawn.
     more: u64,
+    /// Whether something found no memory.
+    full: bool,
 }
 
 impl Picture {
     /// A picture of nothing.
-    pub(super) fn new(alloc: Global) -> Result<Picture, AllocError> {
-        Ok(Picture {
+    pub(super) fn new(alloc: Global) -> Picture {
+        Picture {
             alloc,
             columns: Columns::new(alloc),
             rows: Vec::new(alloc),
             places: BTreeMap::new(alloc),
-            room: vec![in alloc; 0; MOST_OCTETS]?,
             more: 0,
-        })
+            full: false,
+        }
     }
 
-    /// Notes a line of the report, by its number.
-    pub(super) fn note(&mut self, line: u64, report: &ReportLine<'_>) -> Result<(), AllocError> {
+    /// Notes a line of the report, by its number. Where no memory is found for it, that is told when the picture is drawn.
+    pub(super) fn note(&mut self, line: u64, report: ReportLine<'_>) {
         match report {
             ReportLine::Ekt { spi } => self.row(
                 line,
                 None,
-                mark(b"EKT key: SPI", Some(u64::from(*spi))),
+                mark(b"EKT key: SPI", Some(u64::from(spi))),
             ),
             ReportLine::Joined {
                 name,
@@ -64,38 +61,38 @@ impl Picture {
                 self.row(
                     line,
                     Some(name),
-                    mark(b"granted: SPI", Some(u64::from(*spi))),
+                    mark(b"granted: SPI", Some(u64::from(spi))),
                 )
             }
-            ReportLine::Denied { name, reason } => self.row(line, Some(name), denied(*reason)),
+            ReportLine::Denied { name, reason } => self.row(line, Some(name), denied(reason)),
             ReportLine::Rekeyed { name, spi, epoch } => {
-                self.row(line, Some(name), rekeyed(*spi, *epoch))
+                self.row(line, Some(name), rekeyed(spi, epoch))
             }
             ReportLine::WireUp {
                 datagram,
                 name,
                 octets,
-            } => self.wire(line, Way::Up, *datagram, Some(name), octets),
+            } => self.wire(line, Way::Up, datagram, Some(name), octets),
             ReportLine::WireMade { datagram, octets } => {
-                self.wire(line, Way::Made, *datagram, None, octets)
+                self.wire(line, Way::Made, datagram, None, octets)
             }
             ReportLine::WireReseal {
                 datagram,
                 name,
                 octets,
-            } => self.wire(line, Way::Reseal, *datagram, Some(name), octets),
+            } => self.wire(line, Way::Reseal, datagram, Some(name), octets),
             ReportLine::WireDown {
                 datagram,
                 name,
                 octets,
-            } => self.wire(line, Way::Down, *datagram, Some(name), octets),
+            } => self.wire(line, Way::Down, datagram, Some(name), octets),
             ReportLine::Dropped {
                 datagram,
                 name,
                 reason,
-            } => self.outcome(line, *datagram, Some(name), None, dropped(*reason)),
+            } => self.outcome(line, datagram, Some(name), None, dropped(reason)),
             ReportLine::RefuseMedia { datagram, reason } => {
-                self.outcome(line, *datagram, None, None, refused(*reason))
+                self.outcome(line, datagram, None, None, refused(reason))
             }
             ReportLine::Accept {
                 datagram,
@@ -110,10 +107,10 @@ impl Picture {
             } => {
                 self.outcome(
                     line,
-                    *datagram,
+                    datagram,
                     Some(name),
                     Some(sender),
-                    accepted(b"", u64::from(*sent)),
+                    accepted(b"", u64::from(sent)),
                 )
             },
             ReportLine::Rtcp {
@@ -122,7 +119,7 @@ impl Picture {
                 octets,
             } => self.outcome(
                 line,
-                *datagram,
+                datagram,
                 Some(name),
                 None,
                 accepted(b"RTCP of length", octets.len() as u64),
@@ -131,50 +128,53 @@ impl Picture {
                 datagram,
                 name,
                 reason,
-            } => self.outcome(line, *datagram, Some(name), None, refused(*reason)),
+            } => self.outcome(line, datagram, Some(name), None, refused(reason)),
         }
     }
 
     // The column of a name, or the distributor's. None where there is no room for another.
-    fn column(&mut self, name: Option<&Name>) -> Result<Option<usize>, AllocError> {
+    fn column(&mut self, name: Option<Name>) -> Option<usize> {
         match name {
-            Some(name) => self.columns.of(name),
-            None => Ok(Some(0)),
+            Some(name) => match self.columns.of(&name) {
+                Ok(column) => column,
+                Err(_) => {
+                    self.full = true;
+                    None
+                }
+            },
+            None => Some(0),
         }
     }
 
     // Adds a row at a name, or at the distributor, where there is room, and counts the line where there is none.
-    fn row(&mut self, line: u64, name: Option<&Name>, what: What) -> Result<(), AllocError> {
+    fn row(&mut self, line: u64, name: Option<Name>, what: What) {
         if self.rows.len() < MOST_ROWS {
-            if let Some(column) = self.column(name)? {
-                self.rows.push(Row::new(self.alloc, line, column, what))?;
-                return Ok(());
+            if let Some(column) = self.column(name) {
+                if self
+                    .rows
+                    .push(Row::new(self.alloc, line, column, what))
+                    .is_err()
+                {
+                    self.full = true;
+                }
+                return;
             }
         }
-        Ok(self.pass_over())
+        self.pass_over();
     }
 
     // Adds a datagram from or to a name.
-    fn wire(
-        &mut self,
-        line: u64,
-        way: Way,
-        datagram: u32,
-        name: Option<&Name>,
-        octets: &Octets<'_>,
-    ) -> Result<(), AllocError> {
+    fn wire(&mut self, line: u64, way: Way, datagram: u32, name: Option<Name>, octets: Octets<'_>) {
         let place = self.rows.len();
-        let shown = shown_of(octets, self.room.as_mut_slice());
         let what = What::Wire {
             way,
             datagram,
-            shown,
+            shown: shown_of(&octets),
         };
-        self.row(line, name, what)?;
-        if place < self.rows.len() {
-            self.places.insert(datagram, place)?;
+        self.row(line, name, what);
+        if place < self.rows.len() && self.places.insert(datagram, place).is_err() {
+            self.full = true;
         }
-        Ok(())
     }
 
     // Adds what became of a datagram at a name, or at the distributor, with the name of the sender of what was accepted: below its
@@ -183,18 +183,18 @@ impl Picture {
         &mut self,
         line: u64,
         datagram: u32,
-        name: Option<&Name>,
-        sender: Option<&Name>,
+        name: Option<Name>,
+        sender: Option<Name>,
         mut saying: Saying,
-    ) -> Result<(), AllocError> {
+    ) {
         let place = self.places.get(&datagram).copied();
         if place.is_none() && self.rows.len() >= MOST_ROWS {
-            return Ok(self.pass_over());
+            self.pass_over();
+            return;
         }
-        saying.sender = match sender {
-            Some(sender) => self.columns.of(sender)?,
-            None => None,
-        };
+        if sender.is_some() {
+            saying.sender = self.column(sender);
+        }
         match place {
             Some(place) => self.below(place, line, name, saying),
             None => self.row(line, name, What::Late { datagram, saying }),
@@ -202,17 +202,15 @@ impl Picture {
     }
 
     // Adds an outcome to the row at a place.
-    fn below(
-        &mut self,
-        place: usize,
-        line: u64,
-        name: Option<&Name>,
-        saying: Saying,
-    ) -> Result<(), AllocError> {
-        let at = self.column(name)?;
+    fn below(&mut self, place: usize, line: u64, name: Option<Name>, saying: Saying) {
+        let at = self.column(name);
         match (at, self.rows.get_mut(place)) {
-            (Some(at), Some(row)) => row.add(Outcome { line, at, saying }),
-            _ => Ok(self.pass_over()),
+            (Some(at), Some(row)) => {
+                if row.add(Outcome { line, at, saying }).is_err() {
+                    self.full = true;
+                }
+            }
+            _ => self.pass_over(),
         }
     }
 
@@ -230,10 +228,13 @@ impl Picture {
         y
     }
 
-    /// The picture.
+    /// The picture, where each line found memory.
     pub(super) fn drawn(&self) -> Result<Vec<u8>, AllocError>
         ensures { IfOk result (λ picture. IsPicture picture.items) }
     {
+        if self.full {
+            return Err(AllocError);
+        }
         let bottom = self.bottom().saturating_add(10);
         let width = width_of(self.columns.count());
         let height = bottom.saturating_add(60);

@@ -7,6 +7,9 @@ use std::alloc::{AllocError, Global};
 /// How many outcomes are drawn of a datagram at most.
 const MOST_OUTCOMES: usize = 20;
 
+/// How many octets a datagram has at most that a line spells.
+const MOST_OCTETS: usize = 4096;
+
 /// On which way a datagram came to the wire.
 #[derive(Clone, Copy)]
 pub enum Way {
@@ -143,10 +146,10 @@ impl Row {
     }
 }
 
-/// What is shown of a datagram of these octets, as many as there is room for.
-pub(super) fn shown_of(octets: &Octets<'_>, room: &mut [u8]) -> Shown {
-    let n = octets.len().min(room.len());
-    let packet = &mut room[..n];
+/// What is shown of a datagram of these octets.
+pub(super) fn shown_of(octets: &Octets<'_>) -> Shown {
+    let mut room = [0; MOST_OCTETS];
+    let packet = &mut room[..octets.len().min(MOST_OCTETS)];
     octets.write_front(packet);
     shown_from(packet, octets.len())
 }

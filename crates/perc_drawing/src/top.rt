@@ -6,7 +6,7 @@ ghost use Rattle.perc_drawing.specs.Element.{IsPicture};
 ghost use Rattle.perc_drawing.specs.Reading.{first_other};
 ghost use Rattle.perc_drawing.specs.Status as spec;
 
-use super::report::{DrawEnd, draw_report};
+use super::report::{DrawEnd, Stop, draw_report};
 use itoa::Buffer;
 use perc_base::{Failed, Sink, Source, write_all};
 use std::alloc::Global;
@@ -53,10 +53,10 @@ fn status_of(end: DrawEnd) -> u8
 {
     match end {
         DrawEnd::Done => 0,
-        DrawEnd::NotReport(_) => 1,
-        DrawEnd::ReadFault => 3,
+        DrawEnd::Stopped(Stop::NotReport(_)) => 1,
+        DrawEnd::Stopped(Stop::ReadFault) => 3,
         DrawEnd::WriteFault => 4,
-        DrawEnd::Memory => 6,
+        DrawEnd::Stopped(Stop::Memory) => 6,
     }
 }
 
@@ -64,10 +64,10 @@ fn status_of(end: DrawEnd) -> u8
 fn tell<E: Sink>(err: &mut E, end: DrawEnd) -> Result<(), Failed> {
     match end {
         DrawEnd::Done => Ok(()),
-        DrawEnd::NotReport(line) => tell_line(err, line),
-        DrawEnd::ReadFault => write_all(err, b"perc-picture: read fault\n"),
+        DrawEnd::Stopped(Stop::NotReport(line)) => tell_line(err, line),
+        DrawEnd::Stopped(Stop::ReadFault) => write_all(err, b"perc-picture: read fault\n"),
         DrawEnd::WriteFault => write_all(err, b"perc-picture: write fault\n"),
-        DrawEnd::Memory => write_all(err, b"perc-picture: memory\n"),
+        DrawEnd::Stopped(Stop::Memory) => write_all(err, b"perc-picture: memory\n"),
     }
 }
 

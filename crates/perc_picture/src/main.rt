@@ -1,9 +1,6 @@
 // The program `perc-picture`: the top call over the real input and outputs. It exits with the status of the call.
 #![tactic(auto)]
 
-#[cfg(test)]
-mod tests;
-
 use perc_base::{StdSink, StdSource};
 use perc_drawing::{Status, run};
 use std::process::ExitCode;

@@ -10,7 +10,7 @@ as_ok e = ap (λ (z : LineRead). Ok z) e
 pub returns-in-Ok-Line-clause-told : goal.returns-in-Ok-Line-clause-told
 returns-in-Ok-Line-clause-told g c =
     past_line _ _ _ _ _ c.next.result c.in-Ok-Line.line c.note_line.result c.next.follows.holds-at-none
-    (c.in-Ok-Line.is ∙ as_ok c.in-Ok-Line.field-0-is) c.note_line.ensures.told
+    (c.in-Ok-Line.is ∙ as_ok c.in-Ok-Line.field-0-is) c.note_line.ensures
 
 pub returns-in-Ok-Long-clause-told : goal.returns-in-Ok-Long-clause-told
 returns-in-Ok-Long-clause-told g c =
