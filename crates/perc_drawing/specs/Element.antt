@@ -33,7 +33,7 @@ key_text key.Y2 = codes "y2"
 
 -- ` NAME="VALUE"`
 abbrev pub attribute_text : Attribute → List ℕ
-attribute_text a = (codes " " ++ key_text a.key ++ codes "=\"") ++ word_text a.value ++ codes "\""
+attribute_text a = (codes " " ++ key_text a.0 ++ codes "=\"") ++ word_text a.1 ++ codes "\""
 
 abbrev pub attributes_text : List Attribute → List ℕ
 attributes_text attributes = flat_map attribute_text attributes

@@ -2,8 +2,8 @@
 ghost use Rattle.std.specs.Prelude.{ℕ, List, IfOk};
 ghost use Rattle.perc_drawing.specs.Element.{IsBegun, IsPicture};
 
-use super::element::{Attribute, Tag, append_element, end, start};
-use super::markup::Word;
+use super::element::{Attribute, Tag, append_element, start};
+use super::markup::{Word, plain};
 use std::alloc::{AllocError, Global};
 use std::marker::Model;
 
@@ -64,7 +64,7 @@ impl Canvas {
             return Err(AllocError);
         }
         let mut picture = self.octets;
-        end(&mut picture)?;
+        plain(&mut picture, b"</svg>\n")?;
         Ok(picture)
     }
 }

@@ -1,30 +1,47 @@
 // Rows, drawn.
 
 use super::canvas::Canvas;
-use super::columns::Columns;
 use super::layout::{BELOW, GUTTER, OUTSIDE, ROW, SPACING, place_of};
 use super::markup::{Word, width};
 use super::row::{Outcome, Row, Saying, Shown, Way, What};
 use super::shapes::{arrow, boxed, text};
+use perc_word::Name;
+
+// No word.
+const NONE: Word<'static> = Word::Octets(b"");
+
+/// The name of a column.
+pub(super) fn name_of(names: &[Name], column: usize) -> &[u8] {
+    if column == 0 {
+        return b"distributor";
+    }
+    match names.get(column - 1) {
+        Some(name) => name.as_bytes(),
+        None => b"",
+    }
+}
 
 /// Draws a row at this height.
-pub(super) fn draw_row(out: &mut Canvas, columns: &Columns, row: &Row, y: u64) {
-    let base = y.saturating_add(16);
-    text(
-        out,
-        b"quiet",
-        b"start",
-        GUTTER,
-        base,
-        &[Word::Number(row.line)],
-    );
-    draw_what(out, columns, row, base);
-    draw_outcomes(out, columns, row, y.saturating_add(ROW));
-    draw_rest(out, row, y.saturating_add(ROW));
+pub(super) fn draw_row(out: &mut Canvas, names: &[Name], row: &Row, y: u64) {
+    let mut base = y.saturating_add(16);
+    draw_number(out, row.line, base);
+    draw_what(out, names, row, base);
+    base = y.saturating_add(ROW).saturating_add(6);
+    for outcome in &row.outcomes {
+        draw_number(out, outcome.line, base);
+        draw_outcome(out, names, outcome, row.head(), base);
+        base = base.saturating_add(BELOW);
+    }
+    draw_rest(out, row, base);
+}
+
+// Draws the number of a line of the report.
+fn draw_number(out: &mut Canvas, line: u64, base: u64) {
+    text(out, b"quiet", b"start", GUTTER, base, &[Word::Number(line)]);
 }
 
 // Draws what a row shows.
-fn draw_what(out: &mut Canvas, columns: &Columns, row: &Row, base: u64) {
+fn draw_what(out: &mut Canvas, names: &[Name], row: &Row, base: u64) {
     let x = place_of(row.column);
     match &row.what {
         What::Wire {
@@ -32,10 +49,17 @@ fn draw_what(out: &mut Canvas, columns: &Columns, row: &Row, base: u64) {
             datagram,
             shown,
         } => draw_wire(out, *way, *datagram, shown, row.class(), x, base),
-        What::Mark(saying) => draw_mark(out, columns, b"", Word::Octets(b""), saying, x, base),
+        What::Mark(saying) => draw_mark(out, names, saying, [NONE, NONE, NONE], x, base),
         What::Late { datagram, saying } => {
             let number = Word::Number(u64::from(*datagram));
-            draw_mark(out, columns, b" ", number, saying, x, base);
+            draw_mark(
+                out,
+                names,
+                saying,
+                [number, Word::Octets(b" "), NONE],
+                x,
+                base,
+            );
         }
     }
 }
@@ -122,97 +146,67 @@ fn draw_label(
     text(out, b"plain", anchor, x, y, &words);
 }
 
-// A space and a number, where there is one.
+// Octets and a number, where there is one.
 fn number_words(before: &'static [u8], number: Option<u64>) -> (Word<'static>, Word<'static>) {
     match number {
         Some(number) => (Word::Octets(before), Word::Number(number)),
-        None => (Word::Octets(b""), Word::Octets(b"")),
+        None => (NONE, NONE),
     }
 }
 
-// The name of the sender of what was accepted.
-fn sender_of<'a>(columns: &'a Columns, saying: &Saying) -> &'a [u8] {
-    match saying.sender {
-        Some(sender) => columns.name_of(sender),
-        None => b"",
-    }
-}
-
-// Draws what happened, in a box on a column, behind the number of a datagram where there is one.
-fn draw_mark(
-    out: &mut Canvas,
-    columns: &Columns,
-    gap: &'static [u8],
-    datagram: Word<'static>,
-    saying: &Saying,
-    x: u64,
-    base: u64,
-) {
+// What happened, behind these words.
+fn words_of<'a>(names: &'a [Name], saying: &Saying, first: [Word<'a>; 3]) -> [Word<'a>; 10] {
+    let sender = match saying.sender {
+        Some(sender) => Word::Octets(name_of(names, sender)),
+        None => NONE,
+    };
     let number = number_words(b" ", saying.number);
     let epoch = number_words(b", epoch ", saying.epoch);
-    let words = [
-        datagram,
-        Word::Octets(gap),
+    [
+        first[0],
+        first[1],
+        first[2],
         Word::Octets(saying.verb),
-        Word::Octets(sender_of(columns, saying)),
+        sender,
         Word::Octets(saying.reason),
         number.0,
         number.1,
         epoch.0,
         epoch.1,
-    ];
+    ]
+}
+
+// Draws what happened, in a box on a column, behind these words.
+fn draw_mark<'a>(
+    out: &mut Canvas,
+    names: &'a [Name],
+    saying: &Saying,
+    first: [Word<'a>; 3],
+    x: u64,
+    base: u64,
+) {
+    let words = words_of(names, saying, first);
     let room = width(&words).saturating_mul(7).saturating_add(14);
     boxed(out, saying.class, x, base.saturating_sub(14), room, 20);
     text(out, saying.class, b"middle", x, base, &words);
 }
 
-// Draws what became of a row's datagram, line below line.
-fn draw_outcomes(out: &mut Canvas, columns: &Columns, row: &Row, y: u64) {
-    let head = row.head();
-    let mut base = y.saturating_add(6);
-    for outcome in row.outcomes() {
-        draw_outcome(out, columns, outcome, head, base);
-        base = base.saturating_add(BELOW);
-    }
-}
-
 // Draws one outcome, beside the head of its arrow, with the name of another column where it was there.
-fn draw_outcome(out: &mut Canvas, columns: &Columns, outcome: &Outcome, head: usize, base: u64) {
+fn draw_outcome(out: &mut Canvas, names: &[Name], outcome: &Outcome, head: usize, base: u64) {
     let saying = &outcome.saying;
-    let place = place_words(columns, outcome, head);
-    let number = number_words(b" ", saying.number);
-    let words = [
-        place.0,
-        place.1,
-        place.2,
-        Word::Octets(saying.verb),
-        Word::Octets(sender_of(columns, saying)),
-        Word::Octets(saying.reason),
-        number.0,
-        number.1,
-    ];
-    text(
+    let first = if outcome.at == head {
+        [NONE, NONE, NONE]
+    } else {
+        let name = Word::Octets(name_of(names, outcome.at));
+        [Word::Octets(saying.lead), name, Word::Octets(b", ")]
+    };
+    beside(
         out,
-        b"quiet",
-        b"start",
-        GUTTER,
+        saying.class,
+        head,
         base,
-        &[Word::Number(outcome.line)],
+        &words_of(names, saying, first),
     );
-    beside(out, saying.class, head, base, &words);
-}
-
-// The name of the column of an outcome, where it isn't the one at the head of the arrow.
-fn place_words<'a>(
-    columns: &'a Columns,
-    outcome: &Outcome,
-    head: usize,
-) -> (Word<'a>, Word<'a>, Word<'a>) {
-    if outcome.at == head {
-        return (Word::Octets(b""), Word::Octets(b""), Word::Octets(b""));
-    }
-    let name = Word::Octets(columns.name_of(outcome.at));
-    (Word::Octets(outcome.saying.lead), name, Word::Octets(b", "))
 }
 
 // Draws words beside a column: to its left where there is room.
@@ -226,9 +220,7 @@ fn beside(out: &mut Canvas, class: &'static [u8], column: usize, base: u64, word
 }
 
 // Draws how many outcomes more there are, or that there are none where one is due.
-fn draw_rest(out: &mut Canvas, row: &Row, y: u64) {
-    let above = BELOW.saturating_mul(row.outcomes().len() as u64);
-    let base = y.saturating_add(6).saturating_add(above);
+fn draw_rest(out: &mut Canvas, row: &Row, base: u64) {
     if row.is_lost() {
         let words = [Word::Octets(b"not delivered")];
         beside(out, b"quiet", row.head(), base, &words);

@@ -2,7 +2,7 @@
 ghost use Rattle.std.specs.Prelude.{◌≡◌, ◌++◌, OnOk, codes};
 ghost use Rattle.std.specs.Fmt.{decimal};
 ghost use Rattle.perc_drawing.specs.Element as spec;
-ghost use Rattle.perc_drawing.specs.Element.{attribute_text, attributes_text, element_text, start_text, size_text, view_box_text, end_text};
+ghost use Rattle.perc_drawing.specs.Element.{attribute_text, attributes_text, element_text, start_text};
 
 use super::markup::{Word, append_word, append_words, number, plain};
 use std::alloc::AllocError;
@@ -33,12 +33,9 @@ pub enum Key {
     Y2,
 }
 
-/// An attribute of an element.
+/// An attribute of an element, and its value.
 #[derive(Clone, Copy)]
-pub struct Attribute<'a> {
-    pub key: Key,
-    pub value: Word<'a>,
-}
+pub struct Attribute<'a>(pub Key, pub Word<'a>);
 
 // `<NAME`, of an element.
 fn opening(tag: Tag) -> &'static [u8]
@@ -95,18 +92,11 @@ pub(super) fn append_element(
     ensures { OnOk result (out.new.items ≡ out.old.items
         ++ element_text (record { tag = tag; attributes = attributes.now; text = text.now })) }
 {
-    start_tag(out, tag, attributes)?;
+    plain(out, opening(tag))?;
+    append_attributes(out, attributes)?;
+    plain(out, b">")?;
     append_words(out, text)?;
     plain(out, closing(tag))
-}
-
-// Appends `<NAME ATTRIBUTES>`.
-fn start_tag(out: &mut Vec<u8>, tag: Tag, given: &[Attribute<'_>]) -> Result<(), AllocError>
-    ensures { OnOk result (out.new.items ≡ out.old.items ++ (codes "<" ++ spec.tag_text tag ++ attributes_text given.now ++ codes ">")) }
-{
-    plain(out, opening(tag))?;
-    append_attributes(out, given)?;
-    plain(out, b">")
 }
 
 // Appends attributes, one after another.
@@ -123,8 +113,8 @@ fn append_attributes(out: &mut Vec<u8>, attributes: &[Attribute<'_>]) -> Result<
 fn append_attribute(out: &mut Vec<u8>, given: &Attribute<'_>) -> Result<(), AllocError>
     ensures { OnOk result (out.new.items ≡ out.old.items ++ attribute_text given.now) }
 {
-    plain(out, beginning(given.key))?;
-    append_word(out, &given.value)?;
+    plain(out, beginning(given.0))?;
+    append_word(out, &given.1)?;
     plain(out, b"\"")
 }
 
@@ -132,22 +122,8 @@ fn append_attribute(out: &mut Vec<u8>, given: &Attribute<'_>) -> Result<(), Allo
 pub(super) fn start(out: &mut Vec<u8>, width: u64, height: u64) -> Result<(), AllocError>
     ensures { OnOk result (out.new.items ≡ out.old.items ++ start_text width height) }
 {
-    size(out, width, height)?;
-    view_box(out, width, height)
-}
-
-// Appends the beginning of the start, with the size on the screen.
-fn size(out: &mut Vec<u8>, width: u64, height: u64) -> Result<(), AllocError>
-    ensures { OnOk result (out.new.items ≡ out.old.items ++ size_text width height) }
-{
     let front = b"<svg xmlns=\"http://www.w3.org/2000/svg\" width=\"";
-    pair(out, front, width, b"\" height=\"", height, b"\"")
-}
-
-// Appends the rest of the start, with the size in the picture's own units.
-fn view_box(out: &mut Vec<u8>, width: u64, height: u64) -> Result<(), AllocError>
-    ensures { OnOk result (out.new.items ≡ out.old.items ++ view_box_text width height) }
-{
+    pair(out, front, width, b"\" height=\"", height, b"\"")?;
     pair(out, b" viewBox=\"0 0 ", width, b" ", height, b"\">\n")
 }
 
@@ -168,11 +144,4 @@ fn pair(
     plain(out, between)?;
     number(out, second)?;
     plain(out, behind)
-}
-
-/// Appends the end of a picture.
-pub(super) fn end(out: &mut Vec<u8>) -> Result<(), AllocError>
-    ensures { OnOk result (out.new.items ≡ out.old.items ++ end_text) }
-{
-    plain(out, b"</svg>\n")
 }

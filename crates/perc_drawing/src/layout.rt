@@ -23,8 +23,3 @@ pub(super) const BELOW: u64 = 16;
 pub(super) fn place_of(column: usize) -> u64 {
     SPACING.saturating_mul((column as u64).saturating_add(1))
 }
-
-/// How wide a picture of so many columns is.
-pub(super) fn width_of(columns: usize) -> u64 {
-    place_of(columns.max(4))
-}

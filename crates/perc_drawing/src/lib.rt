@@ -2,7 +2,6 @@
 #![tactic(auto)]
 
 mod canvas;
-mod columns;
 mod drawing;
 mod element;
 mod layout;

@@ -15,9 +15,9 @@ pub enum Word<'a> {
     Octets(&'a [u8]),
 }
 
-/// Appends octets as they may stand in a text or in an attribute's value (XML 1.0 section 2.4): each that begins markup or
-/// ends a value is written as an entity, and each that isn't printable ASCII as a question mark.
-pub(super) fn escape(out: &mut Vec<u8>, octets: &[u8]) -> Result<(), AllocError>
+// Appends octets as they may stand in a text or in an attribute's value (XML 1.0 section 2.4): each that begins markup or
+// ends a value is written as an entity, and each that isn't printable ASCII as a question mark.
+fn escape(out: &mut Vec<u8>, octets: &[u8]) -> Result<(), AllocError>
     ensures { OnOk result (out.new.items ≡ out.old.items ++ escaped octets.now) }
 {
     for octet in octets {
@@ -79,18 +79,14 @@ pub(super) fn append_words(out: &mut Vec<u8>, words: &[Word<'_>]) -> Result<(), 
 pub(super) fn width(words: &[Word<'_>]) -> u64 {
     let mut width = 0u64;
     for each in words {
-        width = width.saturating_add(width_of(each));
+        let len = match each {
+            Word::Number(value) => {
+                let mut buffer = Buffer::new();
+                buffer.format(*value).len()
+            }
+            Word::Octets(octets) => octets.len(),
+        };
+        width = width.saturating_add(len as u64);
     }
     width
-}
-
-// How many octets a word has.
-fn width_of(word: &Word<'_>) -> u64 {
-    match word {
-        Word::Number(value) => {
-            let mut buffer = Buffer::new();
-            buffer.format(*value).len() as u64
-        }
-        Word::Octets(octets) => octets.len() as u64,
-    }
 }

@@ -3,12 +3,12 @@ ghost use Rattle.std.specs.Prelude.{IfOk};
 ghost use Rattle.perc_drawing.specs.Element.{IsPicture};
 
 use super::canvas::Canvas;
-use super::columns::Columns;
-use super::drawing::draw_row;
-use super::layout::{SPACING, TOP, place_of, width_of};
+use super::drawing::{draw_row, name_of};
+use super::element::Tag;
+use super::layout::{TOP, place_of};
 use super::markup::Word;
 use super::row::{Outcome, Row, Saying, Way, What, shown_of};
-use super::shapes::{boxed, line, rules, text};
+use super::shapes::{RULES, boxed, line, text};
 use perc_report_line::{Denial, Loss, Refusal, ReportLine};
 use perc_word::{Name, Octets};
 use std::alloc::{AllocError, Global};
@@ -17,11 +17,18 @@ use std::collections::BTreeMap;
 /// How many rows are drawn at most.
 const MOST_ROWS: usize = 1000;
 
+/// How many outcomes are drawn of a datagram at most.
+const MOST_OUTCOMES: usize = 20;
+
+/// How many members have columns at most: as many as can join a conference.
+const MOST_NAMES: usize = 256;
+
 /// What is drawn of a report: the first thousand rows, and what later lines tell of their datagrams.
 #[derive(Drop)]
 pub struct Picture {
     alloc: Global,
-    columns: Columns,
+    /// The names of members in the order in which they came. The distributor has column 0, and the first member column 1.
+    names: Vec<Name>,
     rows: Vec<Row>,
     /// The row of a datagram, by its number.
     places: BTreeMap<u32, usize>,
@@ -36,7 +43,7 @@ impl Picture {
     pub(super) fn new(alloc: Global) -> Picture {
         Picture {
             alloc,
-            columns: Columns::new(alloc),
+            names: Vec::new(alloc),
             rows: Vec::new(alloc),
             places: BTreeMap::new(alloc),
             more: 0,
@@ -47,26 +54,22 @@ impl Picture {
     /// Notes a line of the report, by its number. Where no memory is found for it, that is told when the picture is drawn.
     pub(super) fn note(&mut self, line: u64, report: ReportLine<'_>) {
         match report {
-            ReportLine::Ekt { spi } => self.row(
-                line,
-                None,
-                mark(b"EKT key: SPI", Some(u64::from(spi))),
-            ),
+            ReportLine::Ekt { spi } => self.row(line, None, mark(b"EKT key: SPI", Some(spi), None)),
             ReportLine::Joined {
                 name,
                 association: _,
-            } => self.row(line, Some(name), mark(b"joined", None)),
-            ReportLine::Left { name } => self.row(line, Some(name), mark(b"left", None)),
+            } => self.row(line, Some(name), mark(b"joined", None, None)),
+            ReportLine::Left { name } => self.row(line, Some(name), mark(b"left", None, None)),
             ReportLine::Granted { name, spi } => {
-                self.row(
-                    line,
-                    Some(name),
-                    mark(b"granted: SPI", Some(u64::from(spi))),
-                )
+                self.row(line, Some(name), mark(b"granted: SPI", Some(spi), None))
             }
             ReportLine::Denied { name, reason } => self.row(line, Some(name), denied(reason)),
             ReportLine::Rekeyed { name, spi, epoch } => {
-                self.row(line, Some(name), rekeyed(spi, epoch))
+                self.row(
+                    line,
+                    Some(name),
+                    mark(b"rekeyed: SPI", Some(spi), Some(epoch)),
+                )
             }
             ReportLine::WireUp {
                 datagram,
@@ -132,29 +135,37 @@ impl Picture {
         }
     }
 
-    // The column of a name, or the distributor's. None where there is no room for another.
+    // The column of a name, a new one where it has none yet, or the distributor's. None where there is no room for another.
     fn column(&mut self, name: Option<Name>) -> Option<usize> {
-        match name {
-            Some(name) => match self.columns.of(&name) {
-                Ok(column) => column,
-                Err(_) => {
-                    self.full = true;
-                    None
-                }
-            },
-            None => Some(0),
+        let Some(name) = name else {
+            return Some(0);
+        };
+        for place in 0..self.names.len() {
+            if self.names[place].same(&name) {
+                return Some(place.saturating_add(1));
+            }
         }
+        if self.names.len() == MOST_NAMES {
+            return None;
+        }
+        if self.names.push(name).is_err() {
+            self.full = true;
+        }
+        Some(self.names.len())
     }
 
     // Adds a row at a name, or at the distributor, where there is room, and counts the line where there is none.
     fn row(&mut self, line: u64, name: Option<Name>, what: What) {
         if self.rows.len() < MOST_ROWS {
             if let Some(column) = self.column(name) {
-                if self
-                    .rows
-                    .push(Row::new(self.alloc, line, column, what))
-                    .is_err()
-                {
+                let row = Row {
+                    line,
+                    column,
+                    what,
+                    outcomes: Vec::new(self.alloc),
+                    more: 0,
+                };
+                if self.rows.push(row).is_err() {
                     self.full = true;
                 }
                 return;
@@ -206,7 +217,9 @@ impl Picture {
         let at = self.column(name);
         match (at, self.rows.get_mut(place)) {
             (Some(at), Some(row)) => {
-                if row.add(Outcome { line, at, saying }).is_err() {
+                if row.outcomes.len() == MOST_OUTCOMES {
+                    row.more = row.more.saturating_add(1);
+                } else if row.outcomes.push(Outcome { line, at, saying }).is_err() {
                     self.full = true;
                 }
             }
@@ -236,13 +249,14 @@ impl Picture {
             return Err(AllocError);
         }
         let bottom = self.bottom().saturating_add(10);
-        let width = width_of(self.columns.count());
+        let width = place_of(self.names.len().saturating_add(1).max(4));
         let height = bottom.saturating_add(60);
         let mut out = Canvas::new(self.alloc, width, height)?;
-        rules(&mut out);
+        out.draw(Tag::Title, &[], &[Word::Octets(b"Report of a conference")]);
+        out.draw(Tag::Style, &[], &[Word::Octets(RULES)]);
         boxed(&mut out, b"page", width / 2, 0, width, height);
-        draw_columns(&mut out, &self.columns, bottom);
-        draw_rows(&mut out, &self.columns, self.rows.as_slice());
+        draw_columns(&mut out, &self.names, bottom);
+        draw_rows(&mut out, &self.names, &self.rows);
         draw_more(&mut out, self.more, bottom);
         out.finish()
     }
@@ -266,15 +280,10 @@ fn told(
     }
 }
 
-// Something that happened at a column, with a number where there is one.
-fn mark(verb: &'static [u8], number: Option<u64>) -> What {
-    What::Mark(told(b"mark", verb, b"", number))
-}
-
-// A member took a key of its own.
-fn rekeyed(spi: u16, epoch: u16) -> What {
-    let mut saying = told(b"mark", b"rekeyed: SPI", b"", Some(u64::from(spi)));
-    saying.epoch = Some(u64::from(epoch));
+// Something that happened at a column, with an SPI and an epoch where there are any.
+fn mark(verb: &'static [u8], spi: Option<u16>, epoch: Option<u16>) -> What {
+    let mut saying = told(b"mark", verb, b"", spi.map(u64::from));
+    saying.epoch = epoch.map(u64::from);
     What::Mark(saying)
 }
 
@@ -301,30 +310,23 @@ fn accepted(what: &'static [u8], number: u64) -> Saying {
 }
 
 // Draws the columns with their names at both ends.
-fn draw_columns(out: &mut Canvas, columns: &Columns, bottom: u64) {
-    draw_column(out, b"distributor", SPACING, bottom);
-    let mut x = SPACING;
-    for name in columns.names() {
-        x = x.saturating_add(SPACING);
-        draw_column(out, name.as_bytes(), x, bottom);
-    }
-}
-
-// Draws a column with its name at both ends.
-fn draw_column(out: &mut Canvas, name: &[u8], x: u64, bottom: u64) {
-    line(out, b"column", b"none", (x, 40), (x, bottom));
-    let words = [Word::Octets(name)];
-    for top in [16, bottom] {
-        boxed(out, b"name", x, top, 136, 26);
-        text(out, b"name", b"middle", x, top.saturating_add(18), &words);
+fn draw_columns(out: &mut Canvas, names: &[Name], bottom: u64) {
+    for column in 0..=names.len() {
+        let x = place_of(column);
+        let words = [Word::Octets(name_of(names, column))];
+        line(out, b"column", b"none", (x, 40), (x, bottom));
+        for top in [16, bottom] {
+            boxed(out, b"name", x, top, 136, 26);
+            text(out, b"name", b"middle", x, top.saturating_add(18), &words);
+        }
     }
 }
 
 // Draws rows, one below another.
-fn draw_rows(out: &mut Canvas, columns: &Columns, rows: &[Row]) {
+fn draw_rows(out: &mut Canvas, names: &[Name], rows: &[Row]) {
     let mut y = TOP;
     for row in rows {
-        draw_row(out, columns, row, y);
+        draw_row(out, names, row, y);
         y = y.saturating_add(row.height());
     }
 }

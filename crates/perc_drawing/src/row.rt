@@ -2,10 +2,6 @@
 use super::layout::{BELOW, ROW};
 use perc_rtp::{Carried, RtpHead, kind};
 use perc_word::Octets;
-use std::alloc::{AllocError, Global};
-
-/// How many outcomes are drawn of a datagram at most.
-const MOST_OUTCOMES: usize = 20;
 
 /// How many octets a datagram has at most that a line spells.
 const MOST_OCTETS: usize = 4096;
@@ -75,37 +71,12 @@ pub struct Row {
     pub line: u64,
     pub column: usize,
     pub what: What,
-    outcomes: Vec<Outcome>,
+    pub outcomes: Vec<Outcome>,
     /// How many outcomes came past those that are drawn.
     pub more: u64,
 }
 
 impl Row {
-    /// A row without outcomes.
-    pub(super) fn new(alloc: Global, line: u64, column: usize, what: What) -> Row {
-        Row {
-            line,
-            column,
-            what,
-            outcomes: Vec::new(alloc),
-            more: 0,
-        }
-    }
-
-    /// Adds what became of the row's datagram.
-    pub(super) fn add(&mut self, outcome: Outcome) -> Result<(), AllocError> {
-        if self.outcomes.len() == MOST_OUTCOMES {
-            self.more = self.more.saturating_add(1);
-            return Ok(());
-        }
-        Ok(self.outcomes.push(outcome)?)
-    }
-
-    /// The outcomes, in order.
-    pub(super) fn outcomes(&self) -> &[Outcome] {
-        self.outcomes.as_slice()
-    }
-
     /// The column at the head of the row's arrow.
     pub(super) fn head(&self) -> usize {
         match self.what {

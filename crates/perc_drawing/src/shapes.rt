@@ -3,8 +3,8 @@ use super::canvas::Canvas;
 use super::element::{Attribute, Key, Tag};
 use super::markup::Word;
 
-// The rules for the classes. Texts have a white edge, so that they can be read over a column.
-const RULES: &[u8] =
+/// The rules for the classes. Texts have a white edge, so that they can be read over a column.
+pub(super) const RULES: &[u8] =
     b"text{font:12px Helvetica,Arial,sans-serif;fill:#1f2328;stroke:#fff;stroke-width:4px;paint-order:stroke;stroke-linejoin:round} \
     line{stroke:#1f2328;stroke-width:1.4px} rect{fill:#fff;stroke:#57606a} rect.page{stroke:none} \
     text.quiet{fill:#6e7781;font-size:11px} text.name{font:bold 13px Menlo,Consolas,monospace} rect+text{stroke:none} \
@@ -12,28 +12,6 @@ const RULES: &[u8] =
     line.accepted{stroke:#1a7f37} rect.accepted{fill:#dafbe1;stroke:#1a7f37} text.refused{fill:#a40e26} \
     line.refused{stroke:#cf222e} rect.refused{fill:#ffebe9;stroke:#cf222e} text.dropped{fill:#953800} \
     line.dropped{stroke:#bc4c00} rect.dropped{fill:#fff1e5;stroke:#bc4c00}";
-
-/// Draws the title and the rules for the classes.
-pub(super) fn rules(out: &mut Canvas) {
-    out.draw(Tag::Title, &[], &[Word::Octets(b"Report of a conference")]);
-    out.draw(Tag::Style, &[], &[Word::Octets(RULES)]);
-}
-
-// An attribute that is a number.
-fn number_of(key: Key, number: u64) -> Attribute<'static> {
-    Attribute {
-        key,
-        value: Word::Number(number),
-    }
-}
-
-// An attribute that is a word.
-fn word_of(key: Key, word: &'static [u8]) -> Attribute<'static> {
-    Attribute {
-        key,
-        value: Word::Octets(word),
-    }
-}
 
 /// Draws a text, of which the `anchor`, `start`, `middle` or `end`, stands at a place.
 pub(super) fn text(
@@ -45,10 +23,10 @@ pub(super) fn text(
     words: &[Word<'_>],
 ) {
     let attributes = [
-        word_of(Key::Class, class),
-        word_of(Key::Anchor, anchor),
-        number_of(Key::X, x),
-        number_of(Key::Y, y),
+        Attribute(Key::Class, Word::Octets(class)),
+        Attribute(Key::Anchor, Word::Octets(anchor)),
+        Attribute(Key::X, Word::Number(x)),
+        Attribute(Key::Y, Word::Number(y)),
     ];
     out.draw(Tag::Text, &attributes, words);
 }
@@ -62,12 +40,12 @@ pub(super) fn line(
     to: (u64, u64),
 ) {
     let attributes = [
-        word_of(Key::Class, class),
-        word_of(Key::Dashes, dashes),
-        number_of(Key::X1, from.0),
-        number_of(Key::Y1, from.1),
-        number_of(Key::X2, to.0),
-        number_of(Key::Y2, to.1),
+        Attribute(Key::Class, Word::Octets(class)),
+        Attribute(Key::Dashes, Word::Octets(dashes)),
+        Attribute(Key::X1, Word::Number(from.0)),
+        Attribute(Key::Y1, Word::Number(from.1)),
+        Attribute(Key::X2, Word::Number(to.0)),
+        Attribute(Key::Y2, Word::Number(to.1)),
     ];
     out.draw(Tag::Line, &attributes, &[]);
 }
@@ -82,11 +60,11 @@ pub(super) fn boxed(
     height: u64,
 ) {
     let attributes = [
-        word_of(Key::Class, class),
-        number_of(Key::X, middle.saturating_sub(width / 2)),
-        number_of(Key::Y, top),
-        number_of(Key::Width, width),
-        number_of(Key::Height, height),
+        Attribute(Key::Class, Word::Octets(class)),
+        Attribute(Key::X, Word::Number(middle.saturating_sub(width / 2))),
+        Attribute(Key::Y, Word::Number(top)),
+        Attribute(Key::Width, Word::Number(width)),
+        Attribute(Key::Height, Word::Number(height)),
     ];
     out.draw(Tag::Rect, &attributes, &[]);
 }
