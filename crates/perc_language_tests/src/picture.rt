@@ -2,15 +2,14 @@
 use perc_base::{MemSink, MemSource};
 use perc_drawing::{Status, run};
 use std::alloc::{AllocError, Global};
-use std::process::Abort;
 use std::test::Fail;
 
 // What came of a run.
 #[derive(Drop)]
 struct Outcome {
     status: u8,
-    out: Vec<u8>,
-    err: Vec<u8>,
+    out: MemSink,
+    err: MemSink,
 }
 
 // Draws a report that comes in pieces of that many octets, where these calls of the input and the output fail.
@@ -25,11 +24,7 @@ fn drawn(
     let mut out = MemSink::new(alloc, 1 << 20, writes.to_vec(alloc)?);
     let mut err = MemSink::new(alloc, 1 << 20, Vec::new(alloc));
     let Status(status) = run(alloc, &[], &mut input, &mut out, &mut err);
-    Ok(Outcome {
-        status,
-        out: out.octets().to_vec(alloc)?,
-        err: err.octets().to_vec(alloc)?,
-    })
+    Ok(Outcome { status, out, err })
 }
 
 // Whether the part stands in the text.
@@ -81,24 +76,26 @@ const SHOWN: [(&str, &str); 14] = [
     ("denied Bob spi-old 4\n", ">denied: spi-old 4</text>"),
 ];
 
-// The lines show this text, in whatever pieces they are read.
-fn is_shown(rt: &impl Abort, alloc: Global, lines: &str, text: &str) -> Result<(), Fail> {
+// Whether the octets begin and end as a picture does.
+fn is_picture(octets: &[u8]) -> bool {
+    octets.starts_with(b"<svg xmlns=") && octets.ends_with(b"</svg>\n")
+}
+
+// Whether the lines show this text where they are read in such pieces.
+fn is_shown(alloc: Global, lines: &str, text: &str, piece: usize) -> Result<bool, AllocError> {
     let mut report = OPENING.as_bytes().to_vec(alloc)?;
     report.extend_from_slice(lines.as_bytes())?;
-    for piece in [3, 9000] {
-        let got = drawn(alloc, report.as_slice(), piece, &[], &[])?;
-        assert_eq!(rt; got.status, 0, "{lines}");
-        assert!(rt; holds(got.out.as_slice(), text.as_bytes()), "{lines}");
-        assert!(rt; got.out.starts_with(b"<svg xmlns="), "{lines}");
-        assert!(rt; got.out.ends_with(b"</svg>\n"), "{lines}");
-    }
-    Ok(())
+    let got = drawn(alloc, report.as_slice(), piece, &[], &[])?;
+    let octets = got.out.octets();
+    Ok(got.status == 0 && is_picture(octets) && holds(octets, text.as_bytes()))
 }
 
 #[test]
 fn shows_lines(rt: HostRuntime) -> Result<(), Fail> {
+    let alloc = rt.alloc();
     for (lines, text) in &SHOWN {
-        is_shown(&rt, rt.alloc(), lines, text)?;
+        let is_so = is_shown(alloc, lines, text, 3)? && is_shown(alloc, lines, text, 9000)?;
+        assert!(rt; is_so, "{lines}");
     }
     Ok(())
 }
@@ -117,50 +114,53 @@ const OTHERS: [(&str, &str); 4] = [
     ),
 ];
 
-// The run ends so, with nothing written.
-fn ends_so(rt: &impl Abort, got: &Outcome, status: u8, error: &str) -> Result<(), Fail> {
-    assert_eq!(rt; got.status, status, "{error}");
-    assert_eq!(rt; got.err.as_slice(), error.as_bytes());
-    assert!(rt; got.out.is_empty(), "{error}");
+// Whether the run ends so, with nothing written.
+fn ends_so(got: &Outcome, status: u8, error: &[u8]) -> bool {
+    got.status == status && got.err.octets() == error && got.out.octets().is_empty()
+}
+
+#[test]
+fn refuses_other_lines(rt: HostRuntime) -> Result<(), Fail> {
+    let alloc = rt.alloc();
+    for (report, error) in &OTHERS {
+        let got = drawn(alloc, report.as_bytes(), 5, &[], &[])?;
+        assert!(rt; ends_so(&got, 1, error.as_bytes()), "{error}");
+    }
+    let long = vec![in alloc; b'a'; 9000]?;
+    let got = drawn(alloc, long.as_slice(), 5000, &[], &[])?;
+    assert!(rt; ends_so(&got, 1, b"perc-picture: line 1: not a report line\n"));
     Ok(())
 }
 
 #[test]
-fn ends_with_nothing_drawn(rt: HostRuntime) -> Result<(), Fail> {
+fn tells_faults(rt: HostRuntime) -> Result<(), Fail> {
     let alloc = rt.alloc();
-    for (report, error) in &OTHERS {
-        let got = drawn(alloc, report.as_bytes(), 5, &[], &[])?;
-        ends_so(&rt, &got, 1, error)?;
-    }
-    let long = vec![in alloc; b'a'; 9000]?;
-    let got = drawn(alloc, long.as_slice(), 5000, &[], &[])?;
-    ends_so(&rt, &got, 1, "perc-picture: line 1: not a report line\n")?;
     let got = drawn(alloc, OPENING.as_bytes(), 30, &[1], &[])?;
-    ends_so(&rt, &got, 3, "perc-picture: read fault\n")?;
+    assert!(rt; ends_so(&got, 3, b"perc-picture: read fault\n"));
     let got = drawn(alloc, OPENING.as_bytes(), 30, &[], &[0])?;
-    ends_so(&rt, &got, 4, "perc-picture: write fault\n")
+    assert!(rt; ends_so(&got, 4, b"perc-picture: write fault\n"));
+    Ok(())
+}
+
+// Appends a line that many times.
+fn append_times(report: &mut Vec<u8>, line: &[u8], times: u64) -> Result<(), AllocError> {
+    for _ in 0..times {
+        report.extend_from_slice(line)?;
+    }
+    Ok(())
 }
 
 #[test]
 fn cuts_long_reports(rt: HostRuntime) -> Result<(), Fail> {
     let alloc = rt.alloc();
     let mut report = b"wire 1 up Ann 00\n".to_vec(alloc)?;
-    for _ in 0..1004 {
-        report.extend_from_slice(b"left Ann\n")?;
-    }
-    for _ in 0..23 {
-        report.extend_from_slice(b"refuse 1 media not-media\n")?;
-    }
-    report.extend_from_slice(b"refuse 2 media not-media\n")?;
+    append_times(&mut report, b"left Ann\n", 1004)?;
+    append_times(&mut report, b"refuse 1 media not-media\n", 23)?;
+    append_times(&mut report, b"refuse 2 media not-media\n", 1)?;
     let got = drawn(alloc, report.as_slice(), 8000, &[], &[])?;
-    assert_eq!(rt; got.status, 0);
-    let out = got.out.as_slice();
-    assert!(rt;
-        holds(
-            out,
-            b">Cut after 1000 rows: 6 more lines of the report aren't drawn.</text>"
-        )
-    );
-    assert!(rt; holds(out, b">and 3 more</text>"));
+    assert!(rt; got.status == 0);
+    assert!(rt; holds(got.out.octets(), CUT) && holds(got.out.octets(), b">and 3 more</text>"));
     Ok(())
 }
+
+const CUT: &[u8] = b">Cut after 1000 rows: 6 more lines of the report aren't drawn.</text>";
