@@ -1,5 +1,5 @@
 // A key distributor over a keeper in memory, with clear records.
-ghost use Rattle.std.specs.Prelude.{◌≤◌, None, OnErr};
+ghost use Rattle.std.specs.Prelude.{◌≡◌, ◌≤◌, None, OnErr};
 ghost use Rattle.perc_base.specs.Outside.{HasRisen};
 
 use perc_base::{Failed, FaultlessRandoms, MemRandoms, Profile, is_failing};
@@ -79,29 +79,40 @@ fn welcomes_in_any_two_pieces(rt: HostRuntime) -> Result<(), Fail> {
     Ok(())
 }
 
+// Rolls over the draws.
+fn roll(
+    alloc: Global,
+    keydist: &mut KeyDist,
+    keeper: &mut MemKeeper,
+    out: &mut Vec<u8>,
+) -> Result<Result<EktKeyRecord, KdFault>, Fail>
+    ensures { keydist.new.decoding ≡ keydist.old.decoding }
+{
+    let mut randoms = MemRandoms::new(draws(alloc)?, Vec::new(alloc));
+    Ok(keydist.roll(alloc, keeper, &mut ClearHandshake, &mut randoms, out))
+}
+
 #[test]
 fn rolls_and_repeats(rt: HostRuntime) -> Result<(), Fail> {
     let alloc = rt.alloc();
     let mut keeper = MemKeeper::new(alloc)?;
-    let mut hand = ClearHandshake;
     let mut keydist = KeyDist::new(alloc, Profile::Aes128)?;
     let mut out = Vec::new(alloc);
-    let mut first = MemRandoms::new(draws(alloc)?, Vec::new(alloc));
-    let rolled = keydist.roll(alloc, &mut keeper, &mut hand, &mut first, &mut out);
+    let rolled = roll(alloc, &mut keydist, &mut keeper, &mut out)?;
     assert!(rt; rolled.is_ok_and(|record| record.spi == 1 && record.life == 86400));
-    let mut second = MemRandoms::new(draws(alloc)?, Vec::new(alloc));
-    let again = keydist.roll(alloc, &mut keeper, &mut hand, &mut second, &mut out);
+    let again = roll(alloc, &mut keydist, &mut keeper, &mut out)?;
     assert!(rt; again == Err(KdFault::KeyRepeated));
+    let mut randoms = MemRandoms::new(draws(alloc)?, Vec::new(alloc));
+    let mut hand = ClearHandshake;
     let later = keydist.feed(
         alloc,
         PROFILES,
         &mut keeper,
         &mut hand,
-        &mut second,
+        &mut randoms,
         &mut out,
     );
-    assert_eq!(rt; later, Err(KdFault::KeyRepeated));
-    assert!(rt; out.is_empty());
+    assert!(rt; later == Err(KdFault::KeyRepeated) && out.is_empty());
     Ok(())
 }
 
@@ -122,6 +133,12 @@ fn answer_to(alloc: Global, stream: &[u8]) -> Result<Result<u64, KdFault>, Fail>
     ))
 }
 
+// Whether a new key distributor answers so to these octets, one list behind the other.
+fn is_answered(alloc: Global, lists: &[&[u8]], answer: Result<u64, KdFault>) -> Result<bool, Fail> {
+    let stream = joined(alloc, lists)?;
+    Ok(answer_to(alloc, &stream)? == answer)
+}
+
 #[test]
 fn faults_of_the_stream(rt: HostRuntime) -> Result<(), Fail> {
     let alloc = rt.alloc();
@@ -129,22 +146,19 @@ fn faults_of_the_stream(rt: HostRuntime) -> Result<(), Fail> {
         offset: 0,
         reason: TunnelReason::Kind,
     };
-    assert_eq!(rt; answer_to(alloc, b"\x06\x00")?, Err(KdFault::Tunnel(fault)));
-    assert_eq!(rt;
-        answer_to(alloc, &joined(alloc, &[PROFILES, PROFILES])?)?,
-        Err(KdFault::Order(1))
-    );
-    assert_eq!(rt;
-        answer_to(alloc, b"\x02\x00\x01\x00")?,
-        Err(KdFault::Order(2))
-    );
-    assert_eq!(rt; answer_to(alloc, &WELCOMED[..82])?, Err(KdFault::Order(3)));
-    assert_eq!(rt; answer_to(alloc, HELLO)?, Err(KdFault::Order(4)));
-    assert_eq!(rt; answer_to(alloc, END)?, Err(KdFault::Order(5)));
-    assert_eq!(rt;
-        answer_to(alloc, &joined(alloc, &[PROFILES, HELLO, END, END])?)?,
-        Ok(1)
-    );
+    assert!(rt; is_answered(alloc, &[b"\x06\x00"], Err(KdFault::Tunnel(fault)))?);
+    assert!(rt; is_answered(alloc, &[PROFILES, PROFILES], Err(KdFault::Order(1)))?);
+    assert!(rt; is_answered(alloc, &[b"\x02\x00\x01\x00"], Err(KdFault::Order(2)))?);
+    Ok(())
+}
+
+#[test]
+fn messages_out_of_order(rt: HostRuntime) -> Result<(), Fail> {
+    let alloc = rt.alloc();
+    assert!(rt; is_answered(alloc, &[&WELCOMED[..82]], Err(KdFault::Order(3)))?);
+    assert!(rt; is_answered(alloc, &[HELLO], Err(KdFault::Order(4)))?);
+    assert!(rt; is_answered(alloc, &[END], Err(KdFault::Order(5)))?);
+    assert!(rt; is_answered(alloc, &[PROFILES, HELLO, END, END], Ok(1))?);
     Ok(())
 }
 

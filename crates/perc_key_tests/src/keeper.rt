@@ -79,24 +79,47 @@ fn keeps_what_it_is_given(rt: HostRuntime) -> Result<(), Fail> {
     Ok(())
 }
 
-#[test]
-fn fails_where_it_is_to(rt: HostRuntime) -> Result<(), Fail> {
-    let alloc = rt.alloc();
-    let failing = vec![in alloc; 0, 5, 10, 11, 13, 15, 16, 17]?;
+// A keeper with a record and a member, which five calls make, where these later calls fail.
+fn with_member(rt: &impl Abort, alloc: Global, failing: Vec<u64>) -> Result<MemKeeper, Fail> {
     let mut keeper = MemKeeper::with_failing(alloc, failing)?;
+    assert!(rt; keeper.issue(alloc, &record_of(rt, 1, 1)).is_ok());
+    join(alloc, &mut keeper, &keys())?;
+    Ok(keeper)
+}
+
+#[test]
+fn fails_to_issue_and_to_join(rt: HostRuntime) -> Result<(), Fail> {
+    let alloc = rt.alloc();
+    let mut keeper = MemKeeper::with_failing(alloc, vec![in alloc; 0, 5]?)?;
     let record = record_of(&rt, 1, 1);
     assert!(rt; keeper.issue(alloc, &record) == Err(KeepFault::Failed));
     assert!(rt; keeper.issue(alloc, &record).is_ok());
     assert!(rt; join(alloc, &mut keeper, &keys()) == Err(KeepFault::Failed));
     assert!(rt; join(alloc, &mut keeper, &keys()).is_ok());
+    assert!(rt; keeper.faults() == 2);
+    Ok(())
+}
+
+#[test]
+fn fails_to_leave_and_to_list(rt: HostRuntime) -> Result<(), Fail> {
+    let alloc = rt.alloc();
+    let mut keeper = with_member(&rt, alloc, vec![in alloc; 5, 6, 8]?)?;
     assert!(rt; keeper.leave(alloc, &ASSOCIATION) == Err(KeepFault::Failed));
     assert!(rt; keeper.members(alloc).is_err());
-    assert_eq!(rt; keeper.members(alloc)?.len(), 1);
+    assert!(rt; keeper.members(alloc)?.len() == 1);
     assert!(rt; keeper.last(alloc).is_err());
     assert!(rt; keeper.last(alloc)?.is_some());
+    assert!(rt; keeper.faults() == 3);
+    Ok(())
+}
+
+#[test]
+fn fails_to_find(rt: HostRuntime) -> Result<(), Fail> {
+    let alloc = rt.alloc();
+    let mut keeper = with_member(&rt, alloc, vec![in alloc; 5, 6, 7]?)?;
     assert!(rt; keeper.pair_used(alloc, &pair_of(3)).is_err());
     assert!(rt; keeper.spi_of(alloc, &[1; 16]).is_err());
     assert!(rt; keeper.member(alloc, &ASSOCIATION).is_err());
-    assert_eq!(rt; keeper.faults(), 8);
+    assert!(rt; keeper.faults() == 3);
     Ok(())
 }

@@ -154,6 +154,20 @@ fn read_all(
     Ok(None)
 }
 
+// Whether the decoder takes the piece, and finds no fault in it.
+fn is_taken(
+    rt: &impl Abort,
+    alloc: Global,
+    decoder: &mut Decoder,
+    piece: &[u8],
+    text: &mut String,
+    written: &mut Vec<u8>,
+) -> Result<bool, Fail> {
+    let taken = decoder.feed(piece);
+    let fault = read_all(rt, alloc, decoder, text, written)?;
+    Ok(taken == piece.len() && fault.is_none())
+}
+
 // What the messages say of a stream in two pieces, each of which is written as it was read.
 fn in_two(rt: &impl Abort, alloc: Global, stream: &[u8], cut: usize) -> Result<String, Fail> {
     let mut decoder = Decoder::new(alloc)?;
@@ -161,16 +175,29 @@ fn in_two(rt: &impl Abort, alloc: Global, stream: &[u8], cut: usize) -> Result<S
     let mut written = Vec::new(alloc);
     let (front, back) = stream.split_at(cut.min(stream.len()));
     for piece in [front, back] {
-        assert_eq!(rt; decoder.feed(piece), piece.len());
-        assert_eq!(rt;
-            read_all(rt, alloc, &mut decoder, &mut text, &mut written)?,
-            None
-        );
+        assert!(rt; is_taken(rt, alloc, &mut decoder, piece, &mut text, &mut written)?);
     }
-    assert_eq!(rt; written.as_slice(), stream);
-    assert_eq!(rt; decoder.given(), stream.len() as u64);
-    assert_eq!(rt; decoder.held(), 0);
+    assert!(rt; written.as_slice() == stream);
+    assert!(rt; decoder.given() == stream.len() as u64 && decoder.held() == 0);
     Ok(text)
+}
+
+// The fault of a decoder that takes this octet, where it has one.
+fn fault_at(
+    rt: &impl Abort,
+    alloc: Global,
+    decoder: &mut Decoder,
+    octet: u8,
+) -> Result<Option<TunnelFault>, Fail> {
+    assert!(rt; decoder.feed(&[octet]) == 1);
+    let mut text = String::new(alloc);
+    let mut written = Vec::new(alloc);
+    read_all(rt, alloc, decoder, &mut text, &mut written)
+}
+
+// Whether the decoder takes nothing more, and still tells this fault.
+fn is_stopped(decoder: &mut Decoder, fault: TunnelFault) -> bool {
+    decoder.feed(&[1]) == 0 && decoder.next().is_err_and(|told| told == fault)
 }
 
 // Of a stream that comes octet after octet: after how many it goes wrong, and how.
@@ -180,16 +207,9 @@ fn one_by_one(
     stream: &[u8],
 ) -> Result<Option<(usize, TunnelFault)>, Fail> {
     let mut decoder = Decoder::new(alloc)?;
-    let mut text = String::new(alloc);
-    let mut written = Vec::new(alloc);
     for (i, octet) in stream.iter().enumerate() {
-        assert_eq!(rt; decoder.feed(&[*octet]), 1);
-        if let Some(fault) = read_all(rt, alloc, &mut decoder, &mut text, &mut written)? {
-            assert_eq!(rt; decoder.feed(&[1]), 0);
-            assert_eq!(rt;
-                read_all(rt, alloc, &mut decoder, &mut text, &mut written)?,
-                Some(fault)
-            );
+        if let Some(fault) = fault_at(rt, alloc, &mut decoder, *octet)? {
+            assert!(rt; is_stopped(&mut decoder, fault));
             return Ok(Some((i, fault)));
         }
     }
@@ -203,10 +223,7 @@ fn goes_wrong_at_once(rt: HostRuntime) -> Result<(), Fail> {
             offset: *offset,
             reason: *reason,
         };
-        assert_eq!(rt;
-            one_by_one(&rt, rt.alloc(), stream)?,
-            Some((stream.len() - 1, fault))
-        );
+        assert!(rt; one_by_one(&rt, rt.alloc(), stream)? == Some((stream.len() - 1, fault)));
     }
     Ok(())
 }
@@ -214,9 +231,9 @@ fn goes_wrong_at_once(rt: HostRuntime) -> Result<(), Fail> {
 #[test]
 fn reads_and_writes(rt: HostRuntime) -> Result<(), Fail> {
     for (stream, text) in &MESSAGES {
-        assert_eq!(rt; one_by_one(&rt, rt.alloc(), stream)?, None);
+        assert!(rt; one_by_one(&rt, rt.alloc(), stream)?.is_none());
         for cut in 0..stream.len() {
-            assert_eq!(rt; in_two(&rt, rt.alloc(), stream, cut)?.as_str(), *text);
+            assert!(rt; in_two(&rt, rt.alloc(), stream, cut)?.as_str() == *text);
         }
     }
     Ok(())
@@ -231,10 +248,7 @@ fn reads_a_stream_in_two(rt: HostRuntime) -> Result<(), Fail> {
         texts.push_str(text)?;
     }
     for cut in 0..stream.len() {
-        assert_eq!(rt;
-            in_two(&rt, rt.alloc(), &stream, cut)?.as_str(),
-            texts.as_str()
-        );
+        assert!(rt; in_two(&rt, rt.alloc(), &stream, cut)?.as_str() == texts.as_str());
     }
     Ok(())
 }
@@ -256,23 +270,32 @@ fn keys_of(rt: &impl Abort, profile: Profile, client: usize, server: usize) -> M
 }
 
 #[test]
-fn refuses(rt: HostRuntime) {
+fn refuses_records(rt: HostRuntime) {
     let zeros = [0; 65536];
     for (len, refused) in &[(0, true), (1, false), (65517, false), (65518, true)] {
         let message = Message::TunneledDtls {
             association: [0; 16],
             octets: &zeros[..*len],
         };
-        assert_eq!(rt; is_refused(&message), *refused, "a record of {len}");
+        assert!(rt; is_refused(&message) == *refused, "a record of {len}");
     }
+}
+
+#[test]
+fn refuses_lists(rt: HostRuntime) {
+    let zeros = [0; 65536];
     for (len, refused) in &[(0, true), (2, false), (65532, false), (65534, true)] {
         let message = Message::SupportedProfiles {
             version: 0,
             profiles: ProfileList::new(&zeros[..*len]).expect(&rt, "an even count"),
         };
-        assert_eq!(rt; is_refused(&message), *refused, "a list of {len}");
+        assert!(rt; is_refused(&message) == *refused, "a list of {len}");
     }
     assert!(rt; ProfileList::new(&zeros[..3]).is_none());
+}
+
+#[test]
+fn refuses_keys(rt: HostRuntime) {
     for (profile, client, server, refused) in &[
         (Profile::Aes128, 16, 16, false),
         (Profile::Aes128, 32, 16, true),
@@ -280,12 +303,8 @@ fn refuses(rt: HostRuntime) {
         (Profile::Aes256, 32, 32, false),
     ] {
         let keys = keys_of(&rt, *profile, *client, *server);
-        let message = Message::MediaKeys(&keys);
-        assert_eq!(rt;
-            is_refused(&message),
-            *refused,
-            "keys of {client} and {server}"
-        );
+        let is_so = is_refused(&Message::MediaKeys(&keys)) == *refused;
+        assert!(rt; is_so, "keys of {client} and {server}");
     }
 }
 
